@@ -1,0 +1,102 @@
+-- Loops and chains of calls that store bytes in a lent output. Assumes nothing.
+use Prim.Native.Nat.{ℕ, zero, suc, _+_, _-_, _≤_, _<_}
+use mathlib.Core.Path.{_≡_, refl, sym, ap, _∙_}
+use mathlib.Core.List.{List, [], _∷_, _++_, append-assoc, append-nil}
+use native.Mathlib.Nat.{add-suc, suc-add, add-zero, zero-add, sub-zero}
+use native.Mathlib.Numerals.{add-one}
+use native.Mathlib.Omega.{arith}
+use lib.ListN.{length, take, drop, set, replicate, length-append, length-take, length-set, length-replicate}
+use lib.Seq.{sets, sets-eq, length-sets, take-suc-set, take-all, append-snoc}
+use borrow.Author.Tests.{lt-ltb, le-ltb}
+use Rattle.frame.specs.Outcome.{Outcome, accepted, refused}
+use Rattle.frame.specs.Writing.{WriteEffect, over, zeros, zeroedFrom, writeCall}
+use Rattle.frame.specs.Stored.{Stored}
+
+pub sets-append : (xs ys out : List ℕ) (at : ℕ) → sets out at (xs ++ ys) ≡ sets (sets out at xs) (at + length xs) ys
+sets-append [] ys out at = rw (add-zero at)
+sets-append (x ∷ xs) ys out at = sets-append xs ys (set out at x) (suc at) ∙ ap (λ (k : ℕ). sets (sets (set out at x) (suc at) xs) k ys) (omega arith)
+
+pub front : (xs out : List ℕ) → length xs ≤ length out → sets out 0 xs ≡ over xs out
+front xs out h = sets-eq xs out 0 (omega arith) ∙ ap (λ (k : ℕ). xs ++ drop k out) (zero-add (length xs))
+
+-- rest is xs and then more
+pub record Begins (rest xs more : List ℕ) : Type 0 where
+  pub splits : rest ≡ xs ++ more
+
+-- what is still to come, stored from here on, gives what the whole gives from the base
+pub record Writing (whole rest out₀ : List ℕ) (base : ℕ) (out : List ℕ) (at : ℕ) : Type 0 where
+  pub bytes : sets out at rest ≡ sets out₀ base whole
+  pub place : at + length rest ≡ base + length whole
+  pub room : at + length rest ≤ length out
+  pub same : length out ≡ length out₀
+
+pub begin : {whole out : List ℕ} {base : ℕ} → base + length whole ≤ length out → Writing whole whole out base out base
+begin h = record { bytes = refl; place = refl; room = h; same = refl }
+
+module _ {whole rest out₀ out xs more : List ℕ} {base at : ℕ} (w : Writing whole rest out₀ base out at) (b : Begins rest xs more) where
+  both : length rest ≡ length xs + length more
+  both = ap length (b .splits) ∙ length-append xs more
+
+  pub room-for : at + length xs ≤ length out
+  room-for = omega (arith, both, w .room)
+
+  pub step : {after : List ℕ} {next : ℕ} → Stored xs out at after next → Writing whole more out₀ base after next
+  step {after} {next} s =
+      record {
+        bytes =
+            ap (λ (o : List ℕ). sets o next more) (s .bytes) ∙ ap (λ (k : ℕ). sets (sets out at xs) k more) (s .place)
+            ∙ sym (sets-append xs more out at) ∙ ap (sets out at) (sym (b .splits)) ∙ w .bytes;
+        place = omega (arith, both, w .place, s .place);
+        room = omega (arith, both, w .room, s .place, ap length (s .bytes), length-sets out at xs);
+        same = ap length (s .bytes) ∙ length-sets out at xs ∙ w .same;
+      }
+
+pub stored : {whole rest out₀ out : List ℕ} {base at : ℕ} → Writing whole rest out₀ base out at → rest ≡ [] → Stored whole out₀ base out at
+stored {whole} {rest} {out₀} {out} {base} {at} w e =
+    record { bytes = ap (sets out at) (sym e) ∙ w .bytes; place = omega (arith, w .place, ap length e) }
+
+pub put : {x : ℕ} {out : List ℕ} {at : ℕ} → Stored (x ∷ []) out at (set out at x) (at + 1)
+put = record { bytes = refl; place = refl }
+
+pub put-two : {x y : ℕ} {out : List ℕ} {at : ℕ} → Stored (x ∷ y ∷ []) out at (set (set out at x) (at + 1) y) (at + 2)
+put-two {x} {y} {out} {at} = record { bytes = ap (λ (k : ℕ). set (set out at x) k y) (add-one at); place = refl }
+
+pub then : {xs ys out mid after : List ℕ} {at p q : ℕ} → Stored xs out at mid p → Stored ys mid p after q → Stored (xs ++ ys) out at after q
+then {xs} {ys} {out} {mid} {after} {at} {p} {q} s t =
+    record {
+      bytes =
+          t .bytes ∙ ap (λ (o : List ℕ). sets o p ys) (s .bytes) ∙ ap (λ (k : ℕ). sets (sets out at xs) k ys) (s .place)
+          ∙ sym (sets-append xs ys out at);
+      place = omega (arith, s .place, t .place, length-append xs ys);
+    }
+
+-- the two outcomes of a call that writes bytes at the front
+pub write-fits : {bytes out after : List ℕ} {n : ℕ} → length bytes ≤ length out → Stored bytes out 0 after n
+    → writeCall bytes out ≡ record { answer = accepted n; out = after }
+unfolding writeCall
+write-fits {bytes} {out} {after} {n} h s =
+    let e : n ≡ length bytes = omega (arith, s .place) in
+    rw (le-ltb (length out) (length bytes) h, s .bytes, front bytes out h, e)
+
+pub write-refused : (bytes out : List ℕ) → length out < length bytes → writeCall bytes out ≡ record { answer = refused 18 []; out = out }
+unfolding writeCall
+write-refused bytes out h = rw (lt-ltb (length out) (length bytes) h)
+
+-- zeroing from i on, one byte at a time
+pub zeroed-step : (xs : List ℕ) (i : ℕ) → i < length xs → zeroedFrom (i + 1) (set xs i 0) ≡ zeroedFrom i xs
+unfolding zeroedFrom
+zeroed-step xs i h =
+    let e : length xs - i ≡ suc (length xs - suc i) = omega arith in
+    rw (add-one i, take-suc-set xs i 0 h, length-set xs i 0, e) (append-snoc (take i xs) 0 (replicate (length xs - suc i) 0))
+
+pub zeroed-end : (xs : List ℕ) (i : ℕ) → length xs ≤ i → xs ≡ zeroedFrom i xs
+unfolding zeroedFrom
+zeroed-end xs i h = let e : length xs - i ≡ 0 = omega arith in rw (take-all i xs h, e) (sym (append-nil xs))
+
+pub zeroed-all : (xs : List ℕ) → zeroedFrom 0 xs ≡ zeros xs
+unfolding zeroedFrom
+zeroed-all xs = ap (λ (n : ℕ). replicate n 0) (sub-zero (length xs))
+
+pub length-zeroed : (n : ℕ) (xs : List ℕ) → length (zeroedFrom n xs) ≡ length xs
+unfolding zeroedFrom
+length-zeroed n xs = simp (length-append, length-take, length-replicate) (omega arith)
