@@ -56,14 +56,13 @@ special =
     each-byte (λ b e. 0x3C ≤ b → b < 0x3F → e ≡ 0x3D ∷ (b - 16) ∷ []) (λ _ _. refl) (λ _ _. refl) (λ _ _. refl)
     (λ b n1 n2 n3 h k. absurd (omega arith))
 
+pub plain-byte : (b : ℕ) → (b ≡ END → ⊥) → (b ≡ SENTRY → ⊥) → (b ≡ START → ⊥) → escapedByte b ≡ b ∷ []
+unfolding escapedByte
+plain-byte b e s t = rw (ne-eqb b END e, ne-eqb b SENTRY s, ne-eqb b START t)
+
 pub plain : (b : ℕ) → (b < 0x3C) ⊎ (0x3F ≤ b) → escapedByte b ≡ b ∷ []
-plain =
-    each-byte (λ b e. (b < 0x3C) ⊎ (0x3F ≤ b) → e ≡ b ∷ []) (outside 0x3C (omega arith) (omega arith)) (outside 0x3D (omega arith) (omega arith))
-    (outside 0x3E (omega arith) (omega arith)) (λ b n1 n2 n3 h. refl)
-  where
-    outside : (b : ℕ) {e f : List ℕ} → 0x3C ≤ b → b < 0x3F → (b < 0x3C) ⊎ (0x3F ≤ b) → e ≡ f
-    outside b p q (inl h) = absurd (omega arith)
-    outside b p q (inr h) = absurd (omega arith)
+plain b (inl h) = plain-byte b (λ e. omega arith) (λ e. omega arith) (λ e. omega arith)
+plain b (inr h) = plain-byte b (λ e. omega arith) (λ e. omega arith) (λ e. omega arith)
 
 pub each-length : (g : ℕ → List ℕ) (src : List ℕ) (i : ℕ) → i < length src
     → length (eachOf g (drop i src)) ≡ length (g (getD src i 0)) + length (eachOf g (drop (i + 1) src))

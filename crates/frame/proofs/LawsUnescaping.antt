@@ -14,7 +14,7 @@ use borrow.Author.Tests.{eq-eqb, ne-eqb, le-ltb, lt-ltb}
 use Rattle.frame.specs.Outcome.{Outcome, accepted, refused, pick, onAccepted}
 use Rattle.frame.specs.Writing.{WriteEffect, over, zeros}
 use Rattle.frame.specs.Escaping.{START, END, SENTRY, thenByte, escapeeThen, unescapeOf, escapeeOf, unescapeLeft, unescapeCall}
-use Rattle.frame.proofs.LawsTests.{by-eqb}
+use Rattle.frame.proofs.LawsTests.{by-eqb, by-ltb}
 use Rattle.frame.proofs.LawsWriting.{front}
 
 -- the rest's answer and bytes, told from the place that the loop has reached
@@ -135,43 +135,47 @@ pub unescape-end : (src : List ℕ) (i : ℕ) → length src ≤ i → unescapeO
 unfolding unescapeOf
 unescape-end src i h = rw (drop-of-length-le src h)
 
+-- what holds of each way that a list begins holds of every list and what it unescapes to
+module _ (P : List ℕ → Outcome (List ℕ) → Type 0)
+    (none : P [] (accepted []))
+    (trailing : P (SENTRY ∷ []) (refused 12 []))
+    (bad : (e : ℕ) (xs : List ℕ) → P (SENTRY ∷ e ∷ xs) (refused 13 (e ∷ [])))
+    (escaped : (e : ℕ) (xs : List ℕ) (o : Outcome (List ℕ)) → 0x2C ≤ e → e < 0x2F → P xs o → P (SENTRY ∷ e ∷ xs) (thenByte (e + 16) o))
+    (plain : (b : ℕ) (xs : List ℕ) (o : Outcome (List ℕ)) → (b ≡ SENTRY → ⊥) → P xs o → P (b ∷ xs) (thenByte b o)) where
+  by-escapee : (e : ℕ) (xs : List ℕ) (o : Outcome (List ℕ)) → P xs o → P (SENTRY ∷ e ∷ xs) (escapeeThen e o)
+  by-escapee e xs o h =
+      by-ltb (λ t. P (SENTRY ∷ e ∷ xs) (escapeeThen e o)) e 0x2C
+      (λ k. rw (bad-escapee e o (inl k)) (bad e xs))
+      (λ k. by-ltb (λ t. P (SENTRY ∷ e ∷ xs) (escapeeThen e o)) e 0x2F
+      (λ l. rw (escapee e o k l) (escaped e xs o k l h))
+      (λ l. rw (bad-escapee e o (inr l)) (bad e xs)))
+
+  mutual
+    unfolding unescapeOf
+
+    pub unescape-ind : (xs : List ℕ) → P xs (unescapeOf xs)
+    unescape-ind [] = none
+    unescape-ind (b ∷ xs) =
+        let rest : P xs (unescapeOf xs) = unescape-ind xs in
+        let after : P (SENTRY ∷ xs) (escapeeOf xs) = escapee-ind xs in
+        by-eqb (λ t. P (b ∷ xs) (pick t (escapeeOf xs) (thenByte b (unescapeOf xs)))) b SENTRY
+        (λ e. rw e after)
+        (λ n. plain b xs (unescapeOf xs) n rest)
+
+    escapee-ind : (xs : List ℕ) → P (SENTRY ∷ xs) (escapeeOf xs)
+    escapee-ind [] = trailing
+    escapee-ind (e ∷ xs) = by-escapee e xs (unescapeOf xs) (unescape-ind xs)
+
 -- unescaping never lengthens
-abbrev Within : ℕ → Outcome (List ℕ) → Type 0
-Within n (accepted bs) = length bs ≤ n
-Within n (refused k vs) = Unit {0}
+abbrev Within : List ℕ → Outcome (List ℕ) → Type 0
+Within xs (accepted bs) = length bs ≤ length xs
+Within xs (refused k vs) = Unit {0}
 
-then-within : (n b : ℕ) (o : Outcome (List ℕ)) → Within n o → Within (suc n) (thenByte b o)
-then-within n b (accepted bs) h = omega arith
-then-within n b (refused k vs) h = tt
-
-more-within : (n : ℕ) (o : Outcome (List ℕ)) → Within n o → Within (suc n) o
-more-within n (accepted bs) h = omega arith
-more-within n (refused k vs) h = tt
-
-escapee-within : (n e : ℕ) (o : Outcome (List ℕ)) → Within n o → Within (suc n) (escapeeThen e o)
-unfolding escapeeThen
-escapee-within n e o h =
-    by-eqb (λ t. Within (suc n) (pick t (thenByte END o) (pick (eqb e 0x2D) (thenByte SENTRY o) (pick (eqb e 0x2E) (thenByte START o) (refused 13 (e ∷ [])))))) e 0x2C
-    (λ _. then-within n END o h)
-    (λ _. by-eqb (λ t. Within (suc n) (pick t (thenByte SENTRY o) (pick (eqb e 0x2E) (thenByte START o) (refused 13 (e ∷ []))))) e 0x2D
-    (λ _. then-within n SENTRY o h)
-    (λ _. by-eqb (λ t. Within (suc n) (pick t (thenByte START o) (refused 13 (e ∷ [])))) e 0x2E (λ _. then-within n START o h) (λ _. tt)))
-
-mutual
-  unfolding unescapeOf
-
-  unescape-within : (bs : List ℕ) → Within (length bs) (unescapeOf bs)
-  unescape-within [] = omega arith
-  unescape-within (b ∷ bs) =
-      let rest : Within (length bs) (unescapeOf bs) = unescape-within bs in
-      let esc : Within (length bs) (escapeeOf bs) = escapee-of-within bs in
-      by-eqb (λ t. Within (suc (length bs)) (pick t (escapeeOf bs) (thenByte b (unescapeOf bs)))) b SENTRY
-      (λ _. more-within (length bs) (escapeeOf bs) esc)
-      (λ _. then-within (length bs) b (unescapeOf bs) rest)
-
-  escapee-of-within : (bs : List ℕ) → Within (length bs) (escapeeOf bs)
-  escapee-of-within [] = tt
-  escapee-of-within (e ∷ bs) = escapee-within (length bs) e (unescapeOf bs) (unescape-within bs)
+within-then : (b : ℕ) (xs ys : List ℕ) (o : Outcome (List ℕ)) → suc (length xs) ≤ length ys → Within xs o → Within ys (thenByte b o)
+within-then b xs ys (accepted bs) k h = omega arith
+within-then b xs ys (refused n vs) k h = tt
 
 pub unescape-shorter : (src : List ℕ) {bs : List ℕ} → unescapeOf src ≡ accepted bs → length bs ≤ length src
-unescape-shorter src {bs} e = rw e at (unescape-within src)
+unescape-shorter src {bs} e =
+    rw e at (unescape-ind Within (omega arith) tt (λ _ _. tt) (λ e xs o _ _ h. within-then (e + 16) xs (SENTRY ∷ e ∷ xs) o (omega arith) h)
+    (λ b xs o _ h. within-then b xs (b ∷ xs) o (omega arith) h) src)

@@ -4,3 +4,7 @@ pub mod LawsWriting
 pub mod LawsEscaping
 pub mod LawsUnescaping
 pub mod LawsFraming
+pub mod LawsDataType
+pub mod LawsFree
+pub mod LawsRoundTrip
+pub mod Cases

@@ -95,6 +95,10 @@ pub record UnpackEffect : Type 0 where
   pub answer : Outcome Header
   pub work : List ℕ
 
+-- "the payload starts there at offset 6"
+abbrev pub payloadOf : List ℕ → List ℕ
+payloadOf body = take (length body - 7) (drop 6 body)
+
 abbrev pub headerOf : List ℕ → Header
 headerOf body = record { kind = fromWire (getD body 0 0); seq = getD body 1 0; len = length body - 7 }
 
