@@ -1,0 +1,3 @@
+pub mod LawsRange
+pub mod LawsCapability
+pub mod CasesRange

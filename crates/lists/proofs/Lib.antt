@@ -1,0 +1,3 @@
+pub mod LawsReading
+pub mod LawsEqualizer
+pub mod LawsSupport

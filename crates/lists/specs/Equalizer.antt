@@ -1,0 +1,48 @@
+-- 01, "Messages and decoders" (`decode_equalizer`) and "Beside the log" (`EqShape::of`, `bias`, a band's gain).
+use Prim.Native.Nat.{ℕ, _+_}
+use mathlib.Core.Bool.{Bool, _&&_}
+use mathlib.Core.List.{List, []}
+use lib.Dec.{eqb}
+use lib.IntN.{ℤ, pos, _-ℤ_}
+use lib.ListN.{length, getD, drop}
+use Rattle.frame.specs.Outcome.{Outcome, accepted, refused, pick}
+use Rattle.frame.specs.Refusal.{refusalTold}
+use Rattle.lists.specs.declared.equalizer.EqAnswer.{EqAnswer}
+use Rattle.lists.specs.declared.equalizer.EqAnswer.the-variants as Eq
+use Rattle.lists.specs.declared.equalizer.EqShape.{EqShape}
+use Rattle.lists.specs.declared.equalizer.EqShape.the-variants.{ClearBassAndFive, TenBands, Unknown}
+
+-- what a report says beside its steps
+pub record EqReport : Type 0 where
+  pub preset : ℕ
+  pub count : ℕ
+
+abbrev pub eqTold : EqAnswer → Outcome EqReport
+eqTold (Eq.Report preset count) = accepted (record { preset = preset; count = count })
+eqTold (Eq.Refused r) = refusalTold r
+
+-- kind `00`; preset, count, that many steps, the end
+unfoldable pub isEqualizer : List ℕ → Bool
+isEqualizer p = eqb (getD p 1 0) 0x00 && eqb (length p) (4 + getD p 3 0)
+
+-- preset and count, or 19
+unfoldable pub equalizerOf : List ℕ → Outcome EqReport
+equalizerOf p = pick (isEqualizer p) (accepted (record { preset = getD p 2 0; count = getD p 3 0 })) (refused 19 [])
+
+-- the steps, empty where the decoder refuses
+unfoldable pub stepsOf : List ℕ → List ℕ
+stepsOf p = pick (isEqualizer p) (drop 4 p) []
+
+-- six steps, ten steps, any other number
+unfoldable pub shapeOf : ℕ → EqShape
+shapeOf steps = pick (eqb steps 6) ClearBassAndFive (pick (eqb steps 10) TenBands Unknown)
+
+-- what is subtracted from a step
+abbrev pub biasOf : EqShape → ℤ
+biasOf ClearBassAndFive = pos 10
+biasOf TenBands = pos 6
+biasOf Unknown = pos 10
+
+-- a band's gain is its step minus the bias of the shape of its report's number of steps
+abbrev pub gainOf : (steps step : ℕ) → ℤ
+gainOf steps step = pos step -ℤ biasOf (shapeOf steps)

@@ -1,0 +1,2 @@
+pub mod Equalizer
+pub mod Support

@@ -1,0 +1,4 @@
+pub mod LawsText
+pub mod LawsPaired
+pub mod LawsMasked
+pub mod CasesPaired

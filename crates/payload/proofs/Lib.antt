@@ -1,0 +1,3 @@
+pub mod LawsMessage
+pub mod LawsNoise
+pub mod Cases

@@ -1,0 +1,4 @@
+pub mod Message
+pub mod Battery
+pub mod Noise
+pub mod Setting

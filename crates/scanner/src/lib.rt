@@ -1,0 +1,19 @@
+// Splits a byte stream into frames: the caller lends the store, the state goes by value.
+pub mod next_raw;
+pub mod scanner;
+pub mod search;
+pub mod store;
+
+pub use next_raw::TakeAnswer;
+pub use next_raw::Taken;
+pub use next_raw::take;
+pub use scanner::OpenAnswer;
+pub use scanner::Opened;
+pub use scanner::PushAnswer;
+pub use scanner::Pushed;
+pub use scanner::Scanner;
+pub use scanner::open;
+pub use scanner::push;
+pub use search::Found;
+pub use search::find;
+pub use search::look;

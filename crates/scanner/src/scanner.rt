@@ -1,0 +1,129 @@
+// The state, opening and push.
+use crate::store::clear_from;
+use frame::Refusal;
+ghost use mathlib.Core.Path.{_≡_};
+ghost use Prim.Native.Nat.{_+_, _≤_};
+ghost use lib.ListN.{length, take};
+ghost use lib.Seq.{paste};
+ghost use Rattle.scanner.specs.Scanner.{heldOf, checkedTold, openCall, openTold, pushCall, pushTold};
+
+pub struct Scanner {
+    pub limit: usize,
+    pub count: usize,
+}
+
+pub const LEAST_LIMIT: usize = 9;
+
+pub const MAX_BUFFER: usize = 65536;
+
+pub enum Checked {
+    Fine,
+    Refused(Refusal),
+}
+
+// What every call tries first.
+pub fn check(scanner: Scanner, store: &[u8]) -> Checked
+    ensures { λ r. ⌜ checkedTold r (take (scanner .count) (now (store .entry))) ≡ heldOf scanner (now (store .entry)) ⌝ }
+{
+    let limit = scanner.limit;
+    let count = scanner.count;
+    if limit < LEAST_LIMIT {
+        return Checked::Refused(Refusal::LimitOutOfRange);
+    }
+    if MAX_BUFFER < limit {
+        return Checked::Refused(Refusal::LimitOutOfRange);
+    }
+    if store.len() < limit + 1 {
+        return Checked::Refused(Refusal::StoreTooShort);
+    }
+    if store.len() < count {
+        return Checked::Refused(Refusal::HeldBeyondStore);
+    }
+    Checked::Fine
+}
+
+pub enum OpenAnswer {
+    Open,
+    Refused(Refusal),
+}
+
+pub struct Opened {
+    pub answer: OpenAnswer,
+    pub scanner: Scanner,
+}
+
+pub fn open(limit: usize, store: &mut [u8]) -> Opened
+    ensures { λ r. ⌜ openTold (r .answer) ≡ openCall limit (now (store .entry)) .answer ⌝ }
+    ensures { λ r. ⌜ r .scanner ≡ openCall limit (now (store .entry)) .scanner ⌝ }
+    ensures { λ _. ⌜ now (store .exit) ≡ openCall limit (now (store .entry)) .store ⌝ }
+{
+    let fresh = Scanner {
+        limit: limit,
+        count: 0,
+    };
+    match check(fresh, store) {
+        Checked::Refused(r) => Opened {
+            answer: OpenAnswer::Refused(r),
+            scanner: fresh,
+        },
+        Checked::Fine => {
+            clear_from(store, 0);
+            Opened {
+                answer: OpenAnswer::Open,
+                scanner: fresh,
+            }
+        }
+    }
+}
+
+pub enum PushAnswer {
+    Stored,
+    Refused(Refusal),
+}
+
+pub struct Pushed {
+    pub answer: PushAnswer,
+    pub scanner: Scanner,
+}
+
+fn copy_at(store: &mut [u8], at: usize, piece: &[u8])
+    requires { ⌜ at + length (now piece) ≤ length (now store) ⌝ }
+    ensures { λ _. ⌜ now (store .exit) ≡ paste (now (store .entry)) at (now (piece .entry)) (length (now (piece .entry))) ⌝ }
+{
+    let mut i = 0;
+    while i < piece.len() {
+        store[at + i] = piece[i];
+        i += 1;
+    }
+}
+
+pub fn push(scanner: Scanner, store: &mut [u8], piece: &[u8]) -> Pushed
+    ensures { λ r. ⌜ pushTold (r .answer) ≡ pushCall scanner (now (store .entry)) (now (piece .entry)) .answer ⌝ }
+    ensures { λ r. ⌜ r .scanner ≡ pushCall scanner (now (store .entry)) (now (piece .entry)) .scanner ⌝ }
+    ensures { λ _. ⌜ now (store .exit) ≡ pushCall scanner (now (store .entry)) (now (piece .entry)) .store ⌝ }
+{
+    match check(scanner, store) {
+        Checked::Refused(r) => Pushed {
+            answer: PushAnswer::Refused(r),
+            scanner: scanner,
+        },
+        Checked::Fine => {
+            let count = scanner.count;
+            if store.len() - count < piece.len() {
+                return Pushed {
+                    answer: PushAnswer::Refused(Refusal::StoreFull),
+                    scanner: scanner,
+                };
+            }
+            copy_at(store, count, piece);
+            let next = Scanner {
+                limit: scanner.limit,
+                count: count + piece.len(),
+            };
+            Pushed {
+                answer: PushAnswer::Stored,
+                scanner: next,
+            }
+        }
+    }
+}

@@ -1,0 +1,83 @@
+// The first span among the held bytes.
+use crate::scanner::Checked;
+use crate::scanner::Scanner;
+use crate::scanner::check;
+use frame::Refusal;
+ghost use mathlib.Core.Path.{_≡_};
+ghost use Prim.Native.Nat.{_+_, _≤_};
+ghost use lib.ListN.{length, drop};
+ghost use Rattle.scanner.specs.Search.{placeOf, sightOf, findCall, foundTold, lookOf};
+
+pub const START: u8 = 0x3E;
+
+pub const END: u8 = 0x3C;
+
+// The first `b` from `from` on, or the length.
+fn position(bytes: &[u8], from: usize, b: u8) -> usize
+    requires { ⌜ from ≤ length (now bytes) ⌝ }
+    ensures { λ r. ⌜ r ≡ from + placeOf b (drop from (now (bytes .entry))) ⌝ }
+{
+    let mut i = from;
+    while i < bytes.len() {
+        if bytes[i] == b {
+            return i;
+        }
+        i += 1;
+    }
+    i
+}
+
+pub enum Sight {
+    NoStart,
+    NoEnd(usize),
+    Both { at: usize, len: usize },
+}
+
+pub fn seek(held: &[u8]) -> Sight
+    ensures { λ r. ⌜ r ≡ sightOf (now (held .entry)) ⌝ }
+{
+    let at = position(held, 0, START);
+    if at == held.len() {
+        return Sight::NoStart;
+    }
+    let end = position(held, at + 1, END);
+    if end == held.len() {
+        return Sight::NoEnd(at);
+    }
+    Sight::Both {
+        at: at,
+        len: end + 1 - at,
+    }
+}
+
+pub enum Found {
+    At { at: usize, len: usize },
+    Nothing,
+    Refused(Refusal),
+}
+
+pub fn find(scanner: Scanner, store: &[u8]) -> Found
+    ensures { λ r. ⌜ foundTold r ≡ findCall scanner (now (store .entry)) ⌝ }
+{
+    match check(scanner, store) {
+        Checked::Refused(r) => Found::Refused(r),
+        Checked::Fine => {
+            let count = scanner.count;
+            match seek(&store[..count]) {
+                Sight::NoStart => Found::Nothing,
+                Sight::NoEnd(_) => Found::Nothing,
+                Sight::Both { at, len } => Found::At { at: at, len: len },
+            }
+        }
+    }
+}
+
+pub fn look(scanner: Scanner, store: &[u8]) -> &[u8]
+    ensures { λ r. ⌜ now r ≡ lookOf scanner (now (store .entry)) ⌝ }
+{
+    match find(scanner, store) {
+        Found::At { at, len } => &store[at..at + len],
+        Found::Nothing => &store[..0],
+        Found::Refused(_) => &store[..0],
+    }
+}
