@@ -8,7 +8,8 @@ use lib.Dec.{ltb}
 use lib.ListN.{length, take, drop}
 use borrow.Author.Tests.{ltb-false, lt-ltb, le-ltb}
 use Rattle.frame.specs.Outcome.{Outcome, accepted, refused, pick}
-use Rattle.scanner.specs.Scanner.{heldOf, checkedTold, pushCall, refuses}
+use Rattle.scanner.specs.Scanner.{heldOf, pushCall, refuses}
+use Rattle.scanner.specs.Steps.{checkedTold}
 use Rattle.scanner.specs.declared.scanner.Scanner.{Scanner}
 use Rattle.scanner.specs.declared.scanner.Checked.{Checked}
 use Rattle.scanner.specs.declared.scanner.Checked.the-variants.{Fine}

@@ -13,8 +13,9 @@ use borrow.Author.Tests.{eq-eqb, ne-eqb, eqb-true}
 pub use Rattle.frame.proofs.LawsFree.{Free, free-append}
 use Rattle.frame.specs.Outcome.{Outcome, accepted, refused, pick, onAccepted}
 use Rattle.scanner.specs.Spans.{START, END}
-use Rattle.scanner.specs.Search.{Parted, part, later, placeBy, placeOf, Seen, noStart, noEnd, both, seen, seenStart, seenEnd, Spot, spanOf, spotBy, spotOf, bytesBy, sightBy, sightOf, findCall, foundTold, lookOf, lookBy}
 use Rattle.scanner.specs.Scanner.{heldOf}
+use Rattle.scanner.specs.Search.{Parted, part, later, Seen, noStart, noEnd, both, seen, seenStart, seenEnd, Spot, spanOf, spotBy, spotOf, bytesBy, findCall, foundTold, lookOf, lookBy}
+use Rattle.scanner.specs.Steps.{placeBy, placeOf, sightBy, sightOf}
 use Rattle.scanner.proofs.LawsScanner.{Admitted, Admits, held-admits}
 use Rattle.scanner.specs.declared.scanner.Scanner.{Scanner}
 use Rattle.scanner.specs.declared.search.Found.{Found}

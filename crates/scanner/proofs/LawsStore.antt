@@ -1,25 +1,13 @@
--- The store after a clearing, a copy and a shift.
+-- The store after a copy, a shift and a clearing.
 use Prim.Native.Nat.{ℕ, suc, _+_, _-_, _≤_, _<_}
 use mathlib.Core.Path.{_≡_, sym, ap, _∙_}
-use mathlib.Core.List.{List, _++_, append-nil}
+use mathlib.Core.List.{List, _++_}
 use native.Mathlib.Omega.{arith}
 use native.Mathlib.Numerals.{add-one}
-use lib.ListN.{length, take, drop, getD, set, replicate, length-set, length-append, length-replicate}
-use lib.Seq.{take-suc-set, append-snoc, take-all, take-at, set-at, take-suc, drop-cons, paste, paste-suc, slice, length-slice, length-take-le, getD-append-add, getD-drop, getD-take}
-use Rattle.scanner.specs.Store.{padded, zeroed}
-
-pub clear-step : (l : List ℕ) (i : ℕ) → i < length l → padded (i + 1) (set l i 0) ≡ padded i l
-clear-step l i h =
-    let e : length l - i ≡ suc (length l - suc i) = omega arith in
-    rw (add-one, take-suc-set l i 0, length-set, e, append-snoc)
-
-pub clear-end : (l : List ℕ) (i : ℕ) → length l ≤ i → padded i l ≡ l
-clear-end l i h =
-    let e : length l - i ≡ 0 = omega arith in
-    rw (take-all i l, e, append-nil)
-
-pub clear-all : (l : List ℕ) → padded 0 l ≡ replicate (length l) 0
-clear-all l = let e : length l - 0 ≡ length l = omega arith in rw e
+use lib.ListN.{length, take, drop, getD, set, length-append, length-replicate}
+use lib.Seq.{append-snoc, take-all, take-at, set-at, take-suc, drop-cons, paste, paste-suc, slice, length-slice, length-take-le, getD-append-add, getD-drop, getD-take}
+use Rattle.frame.specs.Writing.{zeroedFrom}
+use Rattle.scanner.specs.Take.{zeroed}
 
 pub copy-step : (d e : List ℕ) (at : ℕ) (s : List ℕ) (j : ℕ) → at + j < length d → j < length s → e ≡ paste d at s j → set e (at + j) (getD s j 0) ≡ paste d at s (j + 1)
 copy-step d e at s j h k p = rw (p, paste-suc d at s j 0 h k, add-one)
@@ -53,7 +41,8 @@ shift-end d from to i h k l =
     rw (e, take-all (to - from) (slice from to d) (rw (length-slice from to d h) (omega arith)))
 
 -- a shift and a clearing behind it
-pub keep-end : (d e : List ℕ) (from to : ℕ) → to ≤ length d → from ≤ to → length e ≡ length d → e ≡ slice from to d ++ drop (to - from) d → padded (to - from) e ≡ zeroed (slice from to d) (length d)
+pub keep-end : (d e : List ℕ) (from to : ℕ) → to ≤ length d → from ≤ to → length e ≡ length d → e ≡ slice from to d ++ drop (to - from) d → zeroedFrom (to - from) e ≡ zeroed (slice from to d) (length d)
+unfolding zeroedFrom
 keep-end d e from to h k n p =
     rw (n, p, take-at (slice from to d) (drop (to - from) d) (to - from) (length-slice from to d h), length-slice from to d h)
 

@@ -10,13 +10,13 @@ use lib.Seq.{drop-append-seam, drop-length, append-snoc, slice, length-slice, le
 use borrow.Author.Tests.{ltb-false}
 use Rattle.frame.specs.Outcome.{accepted, pick}
 use Rattle.scanner.specs.Spans.{START, END}
-use Rattle.scanner.specs.Search.{Seen, noStart, noEnd, both, seen, spanOf, sightBy, sightOf}
-use Rattle.scanner.specs.Take.{takenBy, takenOf, cutOf, isSpan, takeCall}
+use Rattle.scanner.specs.Scanner.{heldOf}
+use Rattle.scanner.specs.Search.{Seen, noStart, noEnd, both, seen, spanOf}
+use Rattle.scanner.specs.Take.{takenBy, takenOf, isSpan, takeCall, zeroed}
+use Rattle.scanner.specs.Steps.{sightBy, sightOf, cutOf}
 use Rattle.scanner.specs.declared.next_raw.Cut.{Cut}
 use Rattle.scanner.specs.declared.search.Sight.{Sight}
 use Rattle.scanner.specs.declared.search.Sight.the-variants.{NoStart, NoEnd, Both}
-use Rattle.scanner.specs.Scanner.{heldOf}
-use Rattle.scanner.specs.Store.{zeroed}
 use Rattle.scanner.specs.declared.scanner.Scanner.{Scanner}
 use Rattle.scanner.proofs.LawsScanner.{admitted}
 use Rattle.scanner.proofs.LawsSearch.{Sees, sees}

@@ -1,5 +1,5 @@
 pub mod Spans
-pub mod Store
 pub mod Scanner
 pub mod Search
 pub mod Take
+pub mod Steps

@@ -6,8 +6,6 @@ use lib.ListN.{length, take, drop, replicate}
 use Rattle.frame.specs.Outcome.{Outcome, accepted, refused, pick}
 use Rattle.frame.specs.Refusal.{refusalTold}
 use Rattle.scanner.specs.declared.scanner.Scanner.{Scanner}
-use Rattle.scanner.specs.declared.scanner.Checked.{Checked}
-use Rattle.scanner.specs.declared.scanner.Checked.the-variants as C
 use Rattle.scanner.specs.declared.scanner.OpenAnswer.{OpenAnswer}
 use Rattle.scanner.specs.declared.scanner.OpenAnswer.the-variants as O
 use Rattle.scanner.specs.declared.scanner.PushAnswer.{PushAnswer}
@@ -31,11 +29,6 @@ heldOf s store =
     pick (ltb (length store) (s .limit + 1)) (refused 2 []) (
     pick (ltb (length store) (s .count)) (refused 3 []) (
     accepted (take (s .count) store)))))
-
--- the checks as the code has them
-abbrev pub checkedTold : Checked → List ℕ → Outcome (List ℕ)
-checkedTold C.Fine held = accepted held
-checkedTold (C.Refused r) held = refusalTold r
 
 -- nothing held
 abbrev pub fresh : ℕ → Scanner

@@ -9,8 +9,6 @@ use Rattle.frame.specs.Refusal.{refusalTold}
 use Rattle.scanner.specs.Spans.{START, END}
 use Rattle.scanner.specs.Scanner.{heldOf}
 use Rattle.scanner.specs.declared.scanner.Scanner.{Scanner}
-use Rattle.scanner.specs.declared.search.Sight.{Sight}
-use Rattle.scanner.specs.declared.search.Sight.the-variants.{NoStart, NoEnd, Both}
 use Rattle.scanner.specs.declared.search.Found.{Found}
 use Rattle.scanner.specs.declared.search.Found.the-variants.{At, Nothing, Refused}
 
@@ -45,14 +43,6 @@ seenStart (some p) = seenEnd (p .before) (p .rest) (part END (p .rest))
 unfoldable pub seen : List ℕ → Seen
 seen held = seenStart (part START held)
 
--- how many bytes stand before the first b; all, where there is none
-abbrev pub placeBy : ℕ → Option Parted → ℕ
-placeBy n none = n
-placeBy n (some p) = length (p .before)
-
-abbrev pub placeOf : ℕ → List ℕ → ℕ
-placeOf b xs = placeBy (length xs) (part b xs)
-
 -- a span of the held bytes: where it starts, and how long it is
 pub record Spot : Type 0 where
   pub at : ℕ
@@ -71,15 +61,6 @@ abbrev pub bytesBy : Seen → List ℕ
 bytesBy noStart = []
 bytesBy (noEnd before rest) = []
 bytesBy (both before between rest) = spanOf between
-
--- the same as the code has it, in offsets and lengths
-abbrev pub sightBy : Seen → Sight
-sightBy noStart = NoStart
-sightBy (noEnd before rest) = NoEnd (length before)
-sightBy (both before between rest) = Both (length before) (length (spanOf between))
-
-abbrev pub sightOf : List ℕ → Sight
-sightOf held = sightBy (seen held)
 
 -- "A twin call gives that span's offset and length, or none, or the refusal"
 abbrev pub spotOf : List ℕ → Option Spot

@@ -1,18 +1,16 @@
 -- 01, "Scanner": "Take does what `next_raw` does".
 use Prim.Native.Nat.{ℕ, _-_}
 use mathlib.Core.Bool.{Bool, true, false}
-use mathlib.Core.List.{List, [], _∷_}
+use mathlib.Core.List.{List, [], _∷_, _++_}
 use mathlib.Core.Option.{Option, none, some}
 use lib.Dec.{ltb}
-use lib.ListN.{length}
+use lib.ListN.{length, replicate}
 use Rattle.frame.specs.Outcome.{Outcome, accepted, refused, pick}
 use Rattle.frame.specs.Refusal.{refusalTold}
 use Rattle.scanner.specs.Spans.{START}
-use Rattle.scanner.specs.Store.{zeroed}
 use Rattle.scanner.specs.Scanner.{Effect, refuses, heldOf}
 use Rattle.scanner.specs.Search.{Seen, noStart, noEnd, both, seen, spanOf}
 use Rattle.scanner.specs.declared.scanner.Scanner.{Scanner}
-use Rattle.scanner.specs.declared.next_raw.Cut.{Cut}
 use Rattle.scanner.specs.declared.next_raw.TakeAnswer.{TakeAnswer}
 use Rattle.scanner.specs.declared.next_raw.TakeAnswer.the-variants.{Span, Nothing, Refused}
 
@@ -21,7 +19,7 @@ pub record Took : Type 0 where
   pub span : Option (List ℕ)
   pub keeps : List ℕ
 
--- "without START all goes; with START, no END and more than L bytes from START on, all goes"; "bytes before START go; with an END the span goes"
+-- "without START all goes"; "bytes before START go", and "with START, no END and more than L bytes from START on, all goes"; "with an END the span goes"
 abbrev pub takenBy : ℕ → Seen → Took
 takenBy limit noStart = record { span = none; keeps = [] }
 takenBy limit (noEnd before rest) = record { span = none; keeps = pick (ltb limit (length (START ∷ rest))) [] (START ∷ rest) }
@@ -34,9 +32,9 @@ abbrev pub isSpan : Option (List ℕ) → Bool
 isSpan none = false
 isSpan (some s) = true
 
--- the same as the code has it: where what stays starts, and whether a span goes
-abbrev pub cutOf : ℕ → List ℕ → Cut
-cutOf limit held = record { from = length held - length (takenOf limit held .keeps); span = isSpan (takenOf limit held .span) }
+-- these bytes at the front, and zeros behind them to the length n
+abbrev pub zeroed : List ℕ → ℕ → List ℕ
+zeroed xs n = xs ++ replicate (n - length xs) 0
 
 -- "What stays moves to the front, and every byte behind it becomes zero. Its answer says whether a span went."
 abbrev pub leaves : Took → Scanner → List ℕ → Effect Bool

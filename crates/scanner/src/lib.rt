@@ -2,7 +2,6 @@
 pub mod next_raw;
 pub mod scanner;
 pub mod search;
-pub mod store;
 
 pub use next_raw::TakeAnswer;
 pub use next_raw::Taken;

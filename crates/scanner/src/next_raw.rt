@@ -4,15 +4,15 @@ use crate::scanner::Scanner;
 use crate::scanner::check;
 use crate::search::Sight;
 use crate::search::seek;
-use crate::store::clear_from;
 use frame::Refusal;
+use frame::writing::wipe_from;
 ghost use mathlib.Core.Path.{_≡_};
 ghost use Prim.Native.Nat.{_-_, _≤_};
 ghost use mathlib.Core.List.{_++_};
 ghost use lib.ListN.{length, drop};
 ghost use lib.Seq.{slice};
-ghost use Rattle.scanner.specs.Store.{zeroed};
-ghost use Rattle.scanner.specs.Take.{cutOf, takeCall, takeTold};
+ghost use Rattle.scanner.specs.Take.{zeroed, takeCall, takeTold};
+ghost use Rattle.scanner.specs.Steps.{cutOf};
 
 pub enum TakeAnswer {
     Span,
@@ -43,7 +43,7 @@ fn keep(store: &mut [u8], from: usize, to: usize)
     ensures { λ _. ⌜ now (store .exit) ≡ zeroed (slice from to (now (store .entry))) (length (now (store .entry))) ⌝ }
 {
     shift(store, from, to);
-    clear_from(store, to - from);
+    wipe_from(store, to - from);
 }
 
 // Where what stays starts among the held bytes, and whether a span goes.

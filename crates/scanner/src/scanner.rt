@@ -1,11 +1,12 @@
 // The state, opening and push.
-use crate::store::clear_from;
 use frame::Refusal;
+use frame::writing::wipe_from;
 ghost use mathlib.Core.Path.{_≡_};
 ghost use Prim.Native.Nat.{_+_, _≤_};
 ghost use lib.ListN.{length, take};
 ghost use lib.Seq.{paste};
-ghost use Rattle.scanner.specs.Scanner.{heldOf, checkedTold, openCall, openTold, pushCall, pushTold};
+ghost use Rattle.scanner.specs.Scanner.{heldOf, openCall, openTold, pushCall, pushTold};
+ghost use Rattle.scanner.specs.Steps.{checkedTold};
 
 pub struct Scanner {
     pub limit: usize,
@@ -67,7 +68,7 @@ pub fn open(limit: usize, store: &mut [u8]) -> Opened
             scanner: fresh,
         },
         Checked::Fine => {
-            clear_from(store, 0);
+            wipe_from(store, 0);
             Opened {
                 answer: OpenAnswer::Open,
                 scanner: fresh,

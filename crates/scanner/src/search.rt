@@ -6,7 +6,8 @@ use frame::Refusal;
 ghost use mathlib.Core.Path.{_≡_};
 ghost use Prim.Native.Nat.{_+_, _≤_};
 ghost use lib.ListN.{length, drop};
-ghost use Rattle.scanner.specs.Search.{placeOf, sightOf, findCall, foundTold, lookOf};
+ghost use Rattle.scanner.specs.Search.{findCall, foundTold, lookOf};
+ghost use Rattle.scanner.specs.Steps.{placeOf, sightOf};
 
 pub const START: u8 = 0x3E;
 

@@ -10,7 +10,7 @@ returns : tie.Need-returns
 returns c =
     let k = c .before .before .before .before .before .before in
     let d = k .before .before .before .args in
-    c .before .before .clear-from .ensures ∙ keep-end (d .store .now) _ (d .from) (d .to) (omega arith) (omega arith) (search needs) (k .shift .ensures)
+    c .before .before .wipe-from .ensures ∙ keep-end (d .store .now) _ (d .from) (d .to) (omega arith) (omega arith) (search needs) (k .shift .ensures)
 
 pub keep-spec : {M : Type 1} → statement M
 keep-spec =

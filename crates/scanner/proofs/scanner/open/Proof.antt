@@ -1,7 +1,7 @@
 use Prim.Native.Nat.{_-_}
 use mathlib.Core.Path.{refl, _∙_}
 use borrow.Author.Needs.{needs}
-use Rattle.scanner.proofs.LawsStore.{clear-all}
+use Rattle.frame.proofs.LawsWriting.{zeroed-all}
 use Rattle.scanner.specs.Scanner.{openCall}
 use Rattle.scanner.proofs.scanner.open.Statement.{statement}
 use Rattle.scanner.proofs.scanner.open.Tie as tie
@@ -13,7 +13,7 @@ returns-2 : tie.Need-returns-2
 unfolding openCall
 returns-2 c =
     let k = c .before .before .before .before .before .before in
-    simp (← k .check .ensures, c .before .before .before .before .enum-told .given .1) (refl, (refl, c .before .before .clear-from .ensures ∙ clear-all (k .before .before .before .args .store .now)))
+    simp (← k .check .ensures, c .before .before .before .before .enum-told .given .1) (refl, (refl, c .before .before .wipe-from .ensures ∙ zeroed-all (k .before .before .before .args .store .now)))
 
 pub open-spec : {M : Type 1} → statement M
 unfolding openCall

@@ -3,7 +3,7 @@ use Prim.Native.Nat.{_+_, _-_, _≤_}
 use mathlib.Core.Path.{_≡_, refl, sym, _∙_}
 use native.Mathlib.Omega.{arith}
 use lib.ListN.{length, drop}
-use Rattle.scanner.specs.Search.{placeOf}
+use Rattle.scanner.specs.Steps.{placeOf}
 use Rattle.scanner.proofs.LawsSearch.{place-step, place-here, place-end}
 use Rattle.scanner.proofs.search.position.Statement.{statement}
 use Rattle.scanner.proofs.search.position.Tie as tie
