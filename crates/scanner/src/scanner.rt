@@ -23,7 +23,7 @@ pub enum Checked {
 }
 
 // What every call tries first.
-pub fn check(scanner: Scanner, store: &[u8]) -> Checked
+pub(crate) fn check(scanner: Scanner, store: &[u8]) -> Checked
     ensures { λ r. ⌜ checkedTold r (take (scanner .count) (now (store .entry))) ≡ heldOf scanner (now (store .entry)) ⌝ }
 {
     let limit = scanner.limit;

@@ -34,7 +34,7 @@ pub enum Sight {
     Both { at: usize, len: usize },
 }
 
-pub fn seek(held: &[u8]) -> Sight
+pub(crate) fn seek(held: &[u8]) -> Sight
     ensures { λ r. ⌜ r ≡ sightOf (now (held .entry)) ⌝ }
 {
     let at = position(held, 0, START);

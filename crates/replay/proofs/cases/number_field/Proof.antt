@@ -1,0 +1,29 @@
+use Prim.Native.Nat.{_-_}
+use lib.ListN.{length}
+use borrow.Author.Needs.{needs}
+use Rattle.replay.proofs.cases.number_field.Statement.{statement}
+use Rattle.replay.proofs.cases.number_field.Tie as tie
+
+abbrev Inv-loop : tie.InvT-loop
+Inv-loop input at which i₀ value₀ i value = Unit {0}
+
+abbrev μ-loop : tie.MeasureT-loop
+μ-loop input at which i₀ value₀ i value = length input - i
+
+pub number-field-spec : {M : Type 1} → statement M
+number-field-spec =
+    tie.close
+    (tie.spec
+    Inv-loop
+    μ-loop
+    (λ c κs. search needs)
+    (λ c. search needs)
+    (λ c. search needs)
+    (λ c κs. search needs)
+    (λ c. search needs)
+    (λ c. search needs)
+    (λ c κs. search needs)
+    (λ c. search needs)
+    (λ c. search needs)
+    (λ c. search needs)
+    (λ c. search needs))

@@ -1,0 +1,26 @@
+use Prim.Native.Nat.{_-_}
+use borrow.Author.Needs.{needs}
+use Rattle.replay_payload.proofs.ranges.within_all.Statement.{statement}
+use Rattle.replay_payload.proofs.ranges.within_all.Tie as tie
+
+abbrev Inv-loop : tie.InvT-loop
+Inv-loop min max step text k r sum₀ i₀ sum i = Unit {0}
+
+abbrev μ-loop : tie.MeasureT-loop
+μ-loop min max step text k r sum₀ i₀ sum i = 28 - i
+
+pub within-all-spec : {M : Type 1} → statement M
+within-all-spec =
+    tie.close
+    (tie.spec
+    Inv-loop
+    μ-loop
+    (λ c. search needs)
+    (λ c κs. search needs)
+    (λ c κs. search needs)
+    (λ c. search needs)
+    (λ c. search needs)
+    (λ c. search needs)
+    (λ c κs. search needs)
+    (λ c. search needs)
+    (λ c. search needs))

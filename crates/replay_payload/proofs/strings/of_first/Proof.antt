@@ -1,0 +1,10 @@
+use mathlib.Core.Path.{sym}
+use lib.Seq.{length-take-le}
+use borrow.Author.Needs.{needs}
+use Rattle.replay_payload.proofs.strings.of_first.Statement.{statement}
+use Rattle.replay_payload.proofs.strings.of_first.Tie as tie
+
+pub of-first-spec : {M : Type 1} → statement M
+of-first-spec =
+    tie.close
+    (tie.spec (λ c. search needs) (λ c. sym (length-take-le _ _ (search needs))) (λ c κs. search needs) (λ c κs. search needs) (λ c. search needs))

@@ -1,0 +1,29 @@
+use mathlib.Core.Path.{_≡_}
+use lib.ListN.{length}
+use borrow.Author.Needs.{needs}
+use Rattle.replay_scanner.proofs.lines.each.Statement.{statement}
+use Rattle.replay_scanner.proofs.lines.each.Tie as tie
+
+abbrev Inv-loop : tie.InvT-loop
+Inv-loop input store₀ piece₀ text₀ at₀ state₀ turns₀ store piece text at state turns = (length store ≡ length store₀) × ((length piece ≡ length piece₀) × (length text ≡ length text₀))
+
+abbrev μ-loop : tie.MeasureT-loop
+μ-loop input store₀ piece₀ text₀ at₀ state₀ turns₀ store piece text at state turns = turns
+
+pub each-spec : {M : Type 1} → statement M
+each-spec =
+    tie.close
+    (tie.spec
+    Inv-loop
+    μ-loop
+    (λ c. search needs)
+    (λ c κs. search needs)
+    (λ c κs. search needs)
+    (λ c. search needs)
+    (λ c. search needs)
+    (λ c. search needs)
+    (λ c κs. search needs)
+    (λ c. search needs)
+    (λ c. search needs)
+    (λ c. search needs)
+    (λ c. search needs))

@@ -1,0 +1,540 @@
+//! Cases for `payload`: the Rust's `Message::split`, seven decoders, `AmbientRange` and `EqShape`, and its `from_utf8`.
+use crate::mdr::payload::{
+    AmbientRange, Cell, Charging, EqShape, Message, NoiseMode, Reading, Table, decode_battery, decode_equalizer,
+    decode_general_setting_param, decode_noise, decode_noise_capability, decode_paired_devices, decode_support_functions,
+};
+use crate::text::{Choice, List, field, lent, rule, shown, sum};
+
+pub fn list() -> List {
+    let mut s = Session { list: List::default(), kept: vec![0; 8_192] };
+    layouts(&mut s);
+    messages(&mut s);
+    batteries(&mut s);
+    noises(&mut s);
+    capabilities(&mut s);
+    equalizers(&mut s);
+    paired(&mut s);
+    supports(&mut s);
+    settings(&mut s);
+    texts(&mut s);
+    ranges(&mut s);
+    s.list
+}
+
+// What the Rust answers, as text. Every word ends with a blank.
+
+fn word(w: impl std::fmt::Display) -> String {
+    format!("{w} ")
+}
+
+fn flag(b: bool) -> String {
+    word(if b { "yes" } else { "no" })
+}
+
+fn option(o: Option<u8>) -> String {
+    o.map_or(word("-"), word)
+}
+
+fn option_flag(o: Option<bool>) -> String {
+    o.map_or(word("-"), flag)
+}
+
+fn cell(c: Option<Cell>) -> String {
+    let Some(c) = c else { return word("-") };
+    let charging = match c.charging {
+        Charging::No => word("no"),
+        Charging::Yes => word("yes"),
+        Charging::Unknown => word("unknown"),
+        Charging::Charged => word("charged"),
+        Charging::Other(b) => word(b),
+    };
+    word(c.level) + &charging + &option(c.threshold)
+}
+
+fn range(r: AmbientRange) -> String {
+    flag(r.voice) + &word(r.min) + &word(r.max) + &word(r.step)
+}
+
+/// What a decoder reads. OURS, by document 01: `None`, and an empty payload, are refusal 19.
+fn decoded(payload: &[u8], decoder: impl Fn(&Message) -> Option<Reading>) -> Option<Reading> {
+    decoder(&Message::split(payload)?)
+}
+
+fn reading(letter: char, table: Table, payload: &[u8], m: usize) -> String {
+    match letter {
+        'm' => message(payload),
+        'b' => match decoded(payload, decode_battery) {
+            Some(Reading::Battery(r)) => cell(r.main) + &cell(r.left) + &cell(r.right) + &cell(r.case),
+            _ => "refused 19 ".into(),
+        },
+        'n' => noise(payload),
+        'c' => capability(payload),
+        'e' => equalizer(payload),
+        'p' => devices(payload),
+        'f' => support(table, payload, m),
+        'g' => match decoded(payload, decode_general_setting_param) {
+            Some(Reading::GeneralSettingParam { slot, enabled }) => word(slot) + &flag(enabled),
+            _ => "refused 19 ".into(),
+        },
+        'y' => flag(std::str::from_utf8(payload).is_ok()),
+        _ => unreachable!("no such reading"),
+    }
+}
+
+fn message(payload: &[u8]) -> String {
+    match Message::split(payload) {
+        Some(m) => word(m.command.to_byte()) + &option(m.kind) + &word(m.len) + &shown(m.body),
+        None => "refused 19 . ".into(),
+    }
+}
+
+fn noise(payload: &[u8]) -> String {
+    let Some(Reading::Noise(r)) = decoded(payload, decode_noise) else { return "refused 19 ".into() };
+    let mode = match r.mode {
+        NoiseMode::Off => "off",
+        NoiseMode::Anc => "anc",
+        NoiseMode::Ambient => "ambient",
+    };
+    word(mode)
+        + &option(r.mode_byte)
+        + &option(r.ambient_level)
+        + &option_flag(r.focus_on_voice)
+        + &flag(r.settled)
+        + &option_flag(r.adaptive)
+        + &option(r.adaptive_sensitivity)
+}
+
+/// OURS: the record holds two ranges, and those behind the count are zero.
+fn capability(payload: &[u8]) -> String {
+    let (answer, mut ranges) = match decoded(payload, decode_noise_capability) {
+        Some(Reading::NoiseCapability { kind, ranges }) => (word(kind), ranges),
+        _ => (word("refused 19"), vec![]),
+    };
+    let count = ranges.len();
+    ranges.resize(2, AmbientRange { voice: false, min: 0, max: 0, step: 0 });
+    answer + &word(count) + &range(ranges[0]) + &range(ranges[1])
+}
+
+/// The place of a number in the replay's list: 0 to 255, then -10 to -1.
+fn place(n: i32) -> i32 {
+    if n < 0 { 266 + n } else { n }
+}
+
+/// OURS: a band's gain is its step less the bias of the shape, which is the Rust's.
+fn equalizer(payload: &[u8]) -> String {
+    let Some(Reading::Equalizer(r)) = decoded(payload, decode_equalizer) else { return "refused 19 . ".into() };
+    let shape = EqShape::of(r.steps.len());
+    let name = match shape {
+        EqShape::ClearBassAndFive => "six",
+        EqShape::TenBands => "ten",
+        EqShape::Unknown => "unknown",
+    };
+    let mut gains = 0;
+    for &step in &r.steps {
+        let place = place(i32::from(step) - shape.bias());
+        gains = sum(gains, &[(place / 256) as u8, (place % 256) as u8]);
+    }
+    word(r.preset) + &word(r.steps.len()) + &shown(&r.steps) + &word(name) + &word(place(shape.bias())) + &word(gains)
+}
+
+/// OURS: addresses and names are offsets in the payload, held to the Rust's strings here; an index at the count is refusal 21.
+fn devices(payload: &[u8]) -> String {
+    let Some(Reading::PairedDevices(devices)) = decoded(payload, decode_paired_devices) else {
+        return "refused 19 refused 19 ".into();
+    };
+    let mut out = word(devices.len());
+    let mut at = 3;
+    for d in &devices {
+        let (name, len) = (at + 22, usize::from(payload[at + 21]));
+        let bytes = &payload[name..name + len];
+        assert_eq!(String::from_utf8_lossy(&payload[at..at + 17]), d.address);
+        assert_eq!(String::from_utf8_lossy(bytes), d.name);
+        out += &word(at);
+        out += &word(d.status);
+        out += &d.detail.map(word).concat();
+        out += &word(name);
+        out += &word(len);
+        out += &flag(std::str::from_utf8(bytes).is_ok());
+        at = name + len;
+    }
+    assert_eq!(at + 1, payload.len());
+    out + "refused 21 "
+}
+
+/// OURS: the pairs go to the front of `m` bytes lent; 20 where they do not fit, and nothing changes.
+fn support(table: Table, payload: &[u8], m: usize) -> String {
+    let mut records = lent(m);
+    let Some(Reading::SupportFunctions { table, functions }) = decoded(payload, |m| decode_support_functions(table, m)) else {
+        return format!("refused 19 {}refused 19 ", shown(&records));
+    };
+    let count = functions.len();
+    if m / 2 < count {
+        return format!("refused 20 {}{count} ", shown(&records));
+    }
+    for (i, f) in functions.iter().enumerate() {
+        records[2 * i] = f.code;
+        records[2 * i + 1] = f.priority;
+    }
+    let name = match table {
+        Table::One => "one",
+        Table::Two => "two",
+    };
+    format!("{name} {count} {}{count} ", shown(&records))
+}
+
+/// OURS: refusal 22 where the Rust panics.
+fn admits(r: AmbientRange, level: i32) -> u8 {
+    if r.step == 0 && (i32::from(r.min)..=i32::from(r.max)).contains(&level) {
+        return 22;
+    }
+    u8::from(r.admits(level))
+}
+
+// The cases.
+
+/// The payload that is kept from line to line.
+struct Session {
+    list: List,
+    kept: Vec<u8>,
+}
+
+impl Session {
+    fn keep(&mut self, bytes: &[u8]) {
+        self.kept[..bytes.len()].copy_from_slice(bytes);
+        self.list.add(format!("k {}", field(bytes)), bytes.len().to_string());
+    }
+
+    fn change(&mut self, at: usize, byte: u8) {
+        self.kept[at] = byte;
+        self.list.add(format!("x {at} {byte}"), "set".into());
+    }
+
+    fn read(&mut self, letter: char, n: usize) {
+        self.list.add(format!("{letter} {n}"), reading(letter, Table::Two, &self.kept[..n], 0));
+    }
+
+    fn support(&mut self, n: usize, m: usize, table: Table) {
+        let number = if table == Table::One { 1 } else { 2 };
+        self.list.add(format!("f {n} {m} {number}"), reading('f', table, &self.kept[..n], m));
+    }
+
+    /// Every byte at a place.
+    fn values(&mut self, letter: char, n: usize, at: usize) {
+        let mut total = 0;
+        for b in 0..=255 {
+            self.kept[at] = b;
+            total = sum(total, reading(letter, Table::One, &self.kept[..n], 1024).as_bytes());
+        }
+        self.list.add(format!("v {n} {at} {letter}"), total.to_string());
+    }
+
+    /// A payload of its own length, one byte less and one more.
+    fn edges(&mut self, letter: char, bytes: &[u8]) {
+        self.keep(bytes);
+        for n in bytes.len().saturating_sub(1)..=bytes.len() + 1 {
+            self.read(letter, n);
+        }
+    }
+
+    /// Every byte at every place of a payload.
+    fn sweep(&mut self, letter: char, bytes: &[u8]) {
+        for at in 0..bytes.len() {
+            self.keep(bytes);
+            self.values(letter, bytes.len(), at);
+        }
+    }
+}
+
+/// Every kind with every length up to 20, for every decoder.
+fn layouts(s: &mut Session) {
+    let mut payloads = vec![vec![0; 21], vec![1; 21]];
+    payloads.extend((0..4).map(|i| rule(2 * i, 21)));
+    // Counts that fit some of the lengths.
+    for count in [0, 1, 2, 3, 4] {
+        payloads.push([vec![0x61, 0, count, count, 0, 9, 1, 1, 2, 7, 3], vec![0; 10]].concat());
+    }
+    for p in payloads {
+        s.keep(&p);
+        for letter in "mbncepfg".chars() {
+            for n in 0..=20 {
+                s.values(letter, n, 1);
+            }
+        }
+    }
+}
+
+fn messages(s: &mut Session) {
+    s.keep(&rule(6, 300));
+    for n in 0..=20 {
+        s.read('m', n);
+        s.values('m', n, 0);
+    }
+    for n in [100, 255, 256, 257, 300] {
+        s.read('m', n);
+    }
+}
+
+fn batteries(s: &mut Session) {
+    for (kind, len) in [(0x00, 4), (0x01, 6), (0x02, 4), (0x08, 5), (0x09, 8), (0x0A, 5)] {
+        let mut p = rule(8, len);
+        (p[0], p[1]) = (0x23, kind);
+        s.sweep('b', &p);
+        for charging in [0, 1, 2, 3, 4, 255] {
+            p[3] = charging;
+            s.edges('b', &p);
+            if len >= 6 {
+                p[5] = 3 - charging.min(3);
+                s.edges('b', &p);
+            }
+        }
+    }
+    s.edges('b', &[0x23, 0x00, 0x50, 0x01]);
+}
+
+fn noises(s: &mut Session) {
+    for (kind, len) in [(0x15, 7), (0x17, 7), (0x19, 9), (0x22, 6), (0x13, 7), (0x01, 5)] {
+        let mut p = rule(10, len);
+        (p[0], p[1]) = (0x67, kind);
+        s.sweep('n', &p);
+        // 00, 01 and 02 for every byte that selects a case.
+        let places: Vec<usize> = match kind {
+            0x19 => vec![2, 3, 4, 5, 7],
+            0x22 => vec![2, 3, 4],
+            0x01 => vec![2, 3, 4],
+            _ => vec![2, 3, 4, 5],
+        };
+        for i in 0..3usize.pow(places.len() as u32) {
+            for (k, &at) in places.iter().enumerate() {
+                p[at] = (i / 3usize.pow(k as u32) % 3) as u8;
+            }
+            s.keep(&p);
+            s.read('n', len);
+        }
+        s.edges('n', &p);
+    }
+    s.edges('n', &[0x67, 0x17, 0x01, 0x00, 0x00, 0x01, 0x05]);
+}
+
+fn capabilities(s: &mut Session) {
+    // Good ones of both modes, and every fault.
+    let elements: [[u8; 4]; 8] = [
+        [0, 0, 20, 5],
+        [1, 1, 10, 1],
+        [0, 7, 7, 255],
+        [1, 0, 255, 1],
+        [2, 0, 20, 5],
+        [0, 8, 7, 1],
+        [1, 0, 20, 0],
+        [0xFF, 0, 0, 0],
+    ];
+    for n in 0..=3u32 {
+        for i in 0..8usize.pow(n) {
+            let list: Vec<u8> = (0..n).flat_map(|k| elements[i / 8usize.pow(k) % 8]).collect();
+            let p = [&[0x61, 0x17, n as u8][..], &list].concat();
+            s.keep(&p);
+            s.read('c', p.len());
+            if i % 5 == 0 {
+                s.edges('c', &p);
+                for count in [0, n as u8 + 1, 255] {
+                    s.change(2, count);
+                    s.read('c', p.len());
+                }
+            }
+        }
+    }
+    for kind in (0x11..=0x24).chain([0, 0xFF]) {
+        s.edges('c', &[0x61, kind, 1, 1, 3, 9, 2]);
+    }
+    s.sweep('c', &[0x61, 0x17, 1, 0, 4, 9, 2]);
+    s.sweep('c', &[0x61, 0x17, 2, 0, 4, 9, 2, 1, 0, 20, 5]);
+}
+
+fn equalizers(s: &mut Session) {
+    for n in [0, 1, 5, 6, 7, 9, 10, 11, 254, 255] {
+        let p = [&[0x57, 0x00, 0xA0, n as u8][..], &rule(12, n)].concat();
+        s.edges('e', &p);
+        for at in [0, 1, 2, 3] {
+            s.keep(&p[..4]);
+            s.values('e', p.len(), at);
+        }
+        for at in 4..p.len().min(15) {
+            s.keep(&p[..at + 1]);
+            s.values('e', p.len(), at);
+        }
+    }
+    s.edges('e', &[0x57, 0x00, 0xA0, 0x06, 0x14, 0x0B, 0x0A, 0x0D, 0x09, 0x0C]);
+}
+
+/// Names: text of every form, and what is not.
+const NAMES: [&[u8]; 16] = [
+    b"",
+    b"A",
+    b"Al",
+    "\u{7F}\u{80}\u{7FF}".as_bytes(),
+    "\u{800}\u{D7FF}\u{E000}\u{FFFF}".as_bytes(),
+    "\u{10000}\u{10FFFF}".as_bytes(),
+    &[0x80],
+    &[0xC0, 0x80],
+    &[0xC1, 0xBF],
+    &[0xE0, 0x9F, 0xBF],
+    &[0xED, 0xA0, 0x80],
+    &[0xF0, 0x8F, 0xBF, 0xBF],
+    &[0xF4, 0x90, 0x80, 0x80],
+    &[0xF5, 0x80, 0x80, 0x80],
+    &[b'a', 0xE2, 0x82],
+    &[0xFF, b'z'],
+];
+
+fn device(c: &mut Choice, name: &[u8]) -> Vec<u8> {
+    let mut out: Vec<u8> = (0..17).map(|i| if i % 3 == 2 { b':' } else { c.of(b"0123456789ABCDEF\xFF") }).collect();
+    out.extend([c.of(&[0, 1, 2]), c.byte(), c.byte(), c.byte(), name.len() as u8]);
+    out.extend(name);
+    out
+}
+
+fn paired_payload(c: &mut Choice, names: &[&[u8]]) -> Vec<u8> {
+    let mut p = vec![0x37, 0x02, names.len() as u8];
+    for name in names {
+        p.extend(device(c, name));
+    }
+    p.push(c.byte());
+    p
+}
+
+fn paired(s: &mut Session) {
+    let mut c = Choice::new(21);
+    // Lists of 0 to 20 devices, cut at every byte and with bytes behind.
+    for n in 0..=20 {
+        let names: Vec<&[u8]> = (0..n).map(|i| NAMES[(i * 7 + n) % 16]).collect();
+        let p = paired_payload(&mut c, &names);
+        s.keep(&p);
+        for len in 0..=p.len() + 2 {
+            s.read('p', len);
+        }
+        for count in [n.wrapping_sub(1) as u8, n as u8 + 1, 255] {
+            s.change(2, count);
+            s.read('p', p.len());
+        }
+    }
+    // Every name alone; names of every length class.
+    let long: Vec<Vec<u8>> = [3, 16, 17, 22, 60, 127, 128, 254, 255].iter().map(|&n| vec![b'n'; n]).collect();
+    let broken: Vec<Vec<u8>> = long.iter().map(|n| [&n[1..], &[0xC2]].concat()).collect();
+    for name in NAMES.iter().copied().chain(long.iter().map(|n| &n[..])).chain(broken.iter().map(|n| &n[..])) {
+        let p = paired_payload(&mut c, &[name]);
+        s.edges('p', &p);
+    }
+    let all: Vec<&[u8]> = long.iter().chain(&broken).map(|n| &n[..]).collect();
+    let p = paired_payload(&mut c, &all);
+    s.edges('p', &p);
+    // Every kind, count and name length.
+    for names in [&[][..], &[&b"Al"[..]], &[&b"A"[..], "\u{E9}".as_bytes()]] {
+        let p = paired_payload(&mut c, names);
+        s.sweep('p', &p);
+    }
+    // 255 devices with no name.
+    let p = paired_payload(&mut c, &[&b""[..]; 255]);
+    s.edges('p', &p);
+}
+
+fn supports(s: &mut Session) {
+    for n in [0, 1, 2, 46, 128, 255] {
+        let p = [&[0x07, 0x00, n as u8][..], &rule(14, 2 * n)].concat();
+        s.keep(&p);
+        for len in p.len() - 1..=p.len() + 1 {
+            for m in [0, 2 * n, 2 * n + 1, 2 * n + 2, (2 * n).saturating_sub(1), (2 * n).saturating_sub(2), 1024] {
+                s.support(len, m, Table::One);
+                s.support(len, m, Table::Two);
+            }
+        }
+        for at in 0..p.len().min(6) {
+            s.keep(&p[..p.len().min(6)]);
+            s.values('f', p.len(), at);
+        }
+    }
+}
+
+fn settings(s: &mut Session) {
+    for kind in [0xD1, 0x00] {
+        for value in 0..3 {
+            for setting in 0..3 {
+                s.edges('g', &[0xD7, kind, setting, value]);
+            }
+        }
+        s.sweep('g', &[0xD7, kind, 0, 0]);
+        s.sweep('g', &[0xD7, kind, 0, 1]);
+    }
+}
+
+fn texts(s: &mut Session) {
+    // Strings cut at every byte.
+    let mut c = Choice::new(22);
+    for _ in 0..40 {
+        let n = 1 + c.below(6);
+        let p: Vec<u8> = (0..n).flat_map(|_| NAMES[c.below(if n % 2 == 0 { 6 } else { 16 })].to_vec()).collect();
+        s.keep(&p);
+        for n in 0..=p.len() {
+            s.read('y', n);
+        }
+    }
+    // All of one to three bytes, and of four round the edges.
+    const EDGES: [u8; 10] = [0x00, 0x7F, 0x80, 0x8F, 0x90, 0x9F, 0xA0, 0xBF, 0xC0, 0xFF];
+    let every: Vec<u8> = (0..=255).collect();
+    for n in 1..=4 {
+        for first in 0..=255 {
+            let sets: [&[u8]; 3] = match n {
+                1 => [&[0], &[0], &[0]],
+                2 => [&every, &[0], &[0]],
+                3 => [&every, &every, &[0]],
+                _ => [&every, &EDGES, &EDGES],
+            };
+            let mut total = 0;
+            for &b in sets[0] {
+                for &d in sets[1] {
+                    for &e in sets[2] {
+                        let text = std::str::from_utf8(&[first, b, d, e][..n]).is_ok();
+                        total = sum(total, &[u8::from(text)]);
+                    }
+                }
+            }
+            s.list.add(format!("t {n} {first}"), total.to_string());
+        }
+    }
+    // What the strings leave at the front of what is kept is not read again before another is kept.
+}
+
+fn ranges(s: &mut Session) {
+    let levels: Vec<i32> =
+        (0..256).chain([i32::MIN, i32::MIN + 1, -256, -255, -1, 256, 257, i32::MAX - 1, i32::MAX]).collect();
+    let bounds: Vec<u8> = (0..24).chain([127, 128, 254, 255]).collect();
+    let mut case = |min: u8, max: u8, step: u8| {
+        let r = AmbientRange { voice: true, min, max, step };
+        let total = levels.iter().fold(0, |t, &level| sum(t, &[admits(r, level)]));
+        s.list.add(format!("a {min} {max} {step}"), total.to_string());
+        let r = AmbientRange { voice: step % 2 == 1, ..r };
+        let mut total = 0;
+        for &lo in &bounds {
+            for &hi in &bounds {
+                total = match r.within(lo, hi) {
+                    None => sum(total, &[0]),
+                    Some(w) => sum(total, &[1 + u8::from(w.voice), w.min, w.max, w.step]),
+                };
+            }
+        }
+        s.list.add(format!("w {min} {max} {step}"), total.to_string());
+    };
+    for min in 0..=8 {
+        for max in 0..=13 {
+            for step in 0..=6 {
+                case(min, max, step);
+            }
+        }
+    }
+    const ENDS: [u8; 8] = [0, 1, 2, 20, 127, 128, 254, 255];
+    for min in ENDS {
+        for max in ENDS {
+            for step in ENDS {
+                case(min, max, step);
+            }
+        }
+    }
+}
