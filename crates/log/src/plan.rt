@@ -53,7 +53,7 @@ fn entry_at(plan: &[u8], at: usize) -> u8
     if at < plan.len() { plan[at] } else { 0 }
 }
 
-pub fn entry(plan: &[u8], kind: u8, command: u8) -> u8
+pub(crate) fn entry(plan: &[u8], kind: u8, command: u8) -> u8
     ensures { λ r. ⌜ r ≡ entryOf (now (plan .entry)) kind command ⌝ }
 {
     match kind {

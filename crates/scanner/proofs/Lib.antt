@@ -5,3 +5,4 @@ pub mod LawsTake
 pub mod LawsSpans
 pub mod LawsCalls
 pub mod Cases
+pub mod Walk

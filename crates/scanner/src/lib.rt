@@ -1,4 +1,5 @@
-// Splits a byte stream into frames: the caller lends the store, the state goes by value.
+// Splits a byte stream into frames: the caller lends the store; the state goes by value, or is lent too.
+pub mod lent;
 pub mod next_raw;
 pub mod scanner;
 pub mod search;
