@@ -1,9 +1,12 @@
 //! Prints the case lists of the replay programs, and the answers that the Rust original gives.
 mod frames;
+mod logs;
 mod mdr;
 mod payloads;
 mod scanners;
 mod text;
+
+use std::io::Write;
 
 /// The constant that `decode_volume` names; its file is not at hand, and the decoder is not replayed.
 mod sony {
@@ -14,20 +17,26 @@ mod sony {
 
 fn main() {
     let words: Vec<String> = std::env::args().skip(1).collect();
-    let list = match words.first().map(String::as_str) {
-        Some("frame") => frames::list(),
-        Some("scanner") => scanners::list(),
-        Some("payload") => payloads::list(),
+    let (cases, answers) = match words.first().map(String::as_str) {
+        Some("frame") => bytes(frames::list()),
+        Some("scanner") => bytes(scanners::list()),
+        Some("payload") => bytes(payloads::list()),
+        Some("log") => logs::list(),
         _ => usage(),
     };
-    match words.get(1).map(String::as_str) {
-        Some("cases") => print!("{}", list.cases),
-        Some("answers") => print!("{}", list.answers),
+    let printed = match words.get(1).map(String::as_str) {
+        Some("cases") => cases,
+        Some("answers") => answers,
         _ => usage(),
-    }
+    };
+    std::io::stdout().write_all(&printed).expect("standard output");
+}
+
+fn bytes(list: text::List) -> (Vec<u8>, Vec<u8>) {
+    (list.cases.into_bytes(), list.answers.into_bytes())
 }
 
 fn usage() -> ! {
-    eprintln!("usage: oracle frame|scanner|payload cases|answers");
+    eprintln!("usage: oracle frame|scanner|payload|log cases|answers");
     std::process::exit(2)
 }

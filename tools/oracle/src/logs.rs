@@ -1,0 +1,475 @@
+//! A session for `log`: a stream of frames of every kind, and the log of its spans over the Rust's `Scanner`, `unpack`, decoders and `pack`.
+use crate::mdr::DataType;
+use crate::mdr::frame_8192::{FrameError, MAX_BUFFER, Scanner, checksum, escape_into, pack, unpack};
+use crate::mdr::payload::{
+    Message, Reading, Table, decode_battery, decode_equalizer, decode_general_setting_param, decode_noise, decode_noise_capability,
+    decode_paired_devices, decode_support_functions,
+};
+use crate::text::{Choice, rule};
+
+/// The stream, and its log.
+pub fn list() -> (Vec<u8>, Vec<u8>) {
+    let stream = stream();
+    assert!(stream.len() <= 900_000);
+    let spans = spans([&stream[..]]);
+    assert!(spans.iter().all(|s| s.len() <= MAX_BUFFER + 1));
+    assert_eq!(spans, self::spans(stream.chunks(61)));
+    let log: String = spans.iter().map(|s| line(s) + "\n").collect();
+    (stream, log.into_bytes())
+}
+
+/// The spans that the Rust's scanner finds.
+fn spans<'a>(pieces: impl IntoIterator<Item = &'a [u8]>) -> Vec<Vec<u8>> {
+    let mut scanner = Scanner::new();
+    let mut spans = Vec::new();
+    for piece in pieces {
+        scanner.push(piece);
+        while let Some(span) = scanner.next_raw() {
+            spans.push(span);
+        }
+    }
+    spans
+}
+
+// OURS, by document 01: the line's form, the house plan and the masking. Reading and packing are the Rust's.
+
+fn line(span: &[u8]) -> String {
+    let frame = match unpack(span) {
+        Ok(frame) => frame,
+        Err(e) => return format!("R {:02}", number(e)),
+    };
+    let (data_type, seq, payload) = (frame.data_type, frame.seq, &frame.payload[..]);
+    match reading(data_type.to_wire(), payload) {
+        None => {
+            let command = &payload[..payload.len().min(1)];
+            format!("H {:02X}{seq:02X}{:08X}{}", data_type.to_wire(), payload.len(), hex(command))
+        }
+        Some(Reading::PairedDevices(devices)) => {
+            format!("S {}", hex(&pack(data_type, seq, &masked(payload, devices.len()))))
+        }
+        Some(_) => format!("F {}", hex(&pack(data_type, seq, payload))),
+    }
+}
+
+fn number(e: FrameError) -> u8 {
+    match e {
+        FrameError::TooShort => 8,
+        FrameError::NoStart => 9,
+        FrameError::NoEnd => 10,
+        FrameError::TrailingSentry => 12,
+        FrameError::BadEscapee(_) => 13,
+        FrameError::BodyTooShort => 14,
+        FrameError::BadChecksum { .. } => 15,
+        FrameError::LengthMismatch { .. } => 16,
+    }
+}
+
+fn hex(bytes: &[u8]) -> String {
+    bytes.iter().map(|b| format!("{b:02X}")).collect()
+}
+
+/// What the decoder reads that the house plan names for the type and the command.
+fn reading(data_type: u8, payload: &[u8]) -> Option<Reading> {
+    let m = Message::split(payload)?;
+    match (data_type, payload[0]) {
+        (0x0C, 0x07) => decode_support_functions(Table::One, &m),
+        (0x0C, 0x23 | 0x25) => decode_battery(&m),
+        (0x0C, 0x57 | 0x59) => decode_equalizer(&m),
+        (0x0C, 0x61) => decode_noise_capability(&m),
+        (0x0C, 0x67 | 0x69) => decode_noise(&m),
+        (0x0C, 0xD7 | 0xD9) => decode_general_setting_param(&m),
+        (0x0E, 0x07) => decode_support_functions(Table::Two, &m),
+        (0x0E, 0x37 | 0x39) => decode_paired_devices(&m),
+        _ => None,
+    }
+}
+
+/// The payload with the address and name bytes of each device made 2A.
+fn masked(payload: &[u8], devices: usize) -> Vec<u8> {
+    let mut out = payload.to_vec();
+    let mut at = 3;
+    for _ in 0..devices {
+        let name = at + 17 + 1 + 3 + 1;
+        let end = name + usize::from(payload[name - 1]);
+        out[at..at + 17].fill(0x2A);
+        out[name..end].fill(0x2A);
+        at = end;
+    }
+    assert_eq!(at + 1, payload.len());
+    out
+}
+
+// The stream.
+
+const START: u8 = 0x3E;
+const END: u8 = 0x3C;
+const SENTRY: u8 = 0x3D;
+
+/// Each command that the house plan has an entry for, with its type.
+const PLANNED: [(u8, u8); 13] = [
+    (0x0C, 0x07),
+    (0x0C, 0x23),
+    (0x0C, 0x25),
+    (0x0C, 0x57),
+    (0x0C, 0x59),
+    (0x0C, 0x61),
+    (0x0C, 0x67),
+    (0x0C, 0x69),
+    (0x0C, 0xD7),
+    (0x0C, 0xD9),
+    (0x0E, 0x07),
+    (0x0E, 0x37),
+    (0x0E, 0x39),
+];
+
+fn stream() -> Vec<u8> {
+    let mut s = Stream { bytes: vec![0], parts: vec![], c: Choice::new(23) };
+    types_and_sequences(&mut s);
+    commands(&mut s);
+    planned(&mut s);
+    paired(&mut s);
+    longest(&mut s);
+    short_spans(&mut s);
+    false_frames(&mut s);
+    raw_starts(&mut s);
+    damaged(&mut s);
+    mixed(&mut s);
+    every_cut(&mut s);
+    // A frame whose end never comes.
+    s.bytes.extend([END, START, 0x0C, 0, 0, 0, 0, 4, 0x23, 0]);
+    s.bytes
+}
+
+struct Stream {
+    bytes: Vec<u8>,
+    /// What was added, apart from noise.
+    parts: Vec<Vec<u8>>,
+    c: Choice,
+}
+
+impl Stream {
+    fn add(&mut self, part: Vec<u8>) {
+        self.bytes.extend(&part);
+        self.parts.push(part);
+    }
+
+    fn frame(&mut self, data_type: u8, payload: &[u8]) {
+        let seq = self.c.byte();
+        self.add(framed(data_type, seq, payload));
+    }
+
+    /// Bytes that begin no span.
+    fn noise(&mut self) {
+        for _ in 0..self.c.below(12) {
+            let any = self.c.byte();
+            let b = self.c.of(&[0, END, SENTRY, 0x2C, 0x2E, 0xFF, any]);
+            self.bytes.push(if b == START { END } else { b });
+        }
+    }
+}
+
+fn framed(data_type: u8, seq: u8, payload: &[u8]) -> Vec<u8> {
+    pack(DataType::from_wire(data_type), seq, payload)
+}
+
+/// A body with its checksum, off by so much.
+fn body(data_type: u8, seq: u8, declared: u32, payload: &[u8], off: u8) -> Vec<u8> {
+    let mut body = vec![data_type, seq];
+    body.extend(declared.to_be_bytes());
+    body.extend(payload);
+    body.push(checksum(&body).wrapping_add(off));
+    body
+}
+
+fn between_markers(inside: &[u8]) -> Vec<u8> {
+    [&[START], inside, &[END]].concat()
+}
+
+fn escaped(body: &[u8]) -> Vec<u8> {
+    let mut out = Vec::new();
+    escape_into(body, &mut out);
+    between_markers(&out)
+}
+
+/// Paired devices with these names; addresses and the rest by choice.
+fn devices(c: &mut Choice, command: u8, names: &[Vec<u8>]) -> Vec<u8> {
+    let mut p = vec![command, 0x02, names.len() as u8];
+    for name in names {
+        let plain = c.below(3) > 0;
+        p.extend((0..17).map(|i| if plain { b"38:18:4C:0A:3D:3E"[i] } else { c.byte() }));
+        p.push(c.of(&[0, 1, 2, END, SENTRY, START]));
+        p.extend((0..3).map(|_| c.byte()));
+        p.push(name.len() as u8);
+        p.extend(name);
+    }
+    p.push(c.byte());
+    p
+}
+
+fn name(c: &mut Choice) -> Vec<u8> {
+    match c.below(8) {
+        0 => vec![],
+        1 => b"WH-1000XM5".to_vec(),
+        2 => "Téléphone de Zoë".into(),
+        3 => "ヘッドホン 🎧".into(),
+        4 => vec![0xC3],
+        5 => vec![0x41, 0xFF, 0xED, 0xA0, 0x80],
+        6 => (0..c.below(20)).map(|_| c.of(&[END, SENTRY, START, 0x2A])).collect(),
+        _ => (0..c.below(40)).map(|_| c.byte()).collect(),
+    }
+}
+
+/// Payloads of a command that its decoder accepts.
+fn accepted(c: &mut Choice, data_type: u8, command: u8) -> Vec<Vec<u8>> {
+    let mut all: Vec<Vec<u8>> = vec![];
+    let with_kinds = |kinds: &[(u8, usize)], c: &mut Choice| -> Vec<Vec<u8>> {
+        let rest = |n, c: &mut Choice| (2..n).map(|_| c.of(&[0, 1, 2, 80, END, SENTRY, START, 0xFF])).collect();
+        kinds.iter().flat_map(|&(kind, n)| [0; 3].map(|_| [vec![command, kind], rest(n, c)].concat())).collect()
+    };
+    match (data_type, command) {
+        (_, 0x07) => {
+            for n in [0, 1, 2, 5, 60, 61, 62, 128, 255] {
+                all.push([vec![command, 0, n], rule(2 * u64::from(n), 2 * usize::from(n))].concat());
+                all.push([vec![command, 0, n], rule(1, 2 * usize::from(n))].concat());
+            }
+        }
+        (0x0C, 0x23 | 0x25) => all = with_kinds(&[(0, 4), (1, 6), (2, 4), (8, 5), (9, 8), (10, 5)], c),
+        (0x0C, 0x57 | 0x59) => {
+            for n in [0, 1, 6, 10, 60, 61, 62, 255] {
+                all.push([vec![command, 0, c.byte(), n], rule(u64::from(n), usize::from(n))].concat());
+            }
+        }
+        (0x0C, 0x61) => {
+            for kind in [0x13, 0x14, 0x15, 0x16, 0x17, 0x18, 0x19, 0x22] {
+                all.push(vec![command, kind, 1, kind % 2, 0, 20, 1]);
+                all.push(vec![command, kind, 2, 1, SENTRY, SENTRY, START, 0, END, 0xFF, 1]);
+            }
+        }
+        (0x0C, 0x67 | 0x69) => all = with_kinds(&[(0x15, 7), (0x17, 7), (0x19, 9), (0x22, 6), (0x13, 7), (0x01, 5)], c),
+        (0x0C, 0xD7 | 0xD9) => {
+            for slot in [0, 1, END, SENTRY, START, 0xD2, 0xFF] {
+                all.push(vec![command, slot, 0, slot % 2]);
+            }
+        }
+        (0x0E, 0x37 | 0x39) => {
+            for n in [0, 1, 2, 3] {
+                let names: Vec<Vec<u8>> = (0..n).map(|_| name(c)).collect();
+                all.push(devices(c, command, &names));
+            }
+        }
+        _ => unreachable!("no such entry"),
+    }
+    for p in &all {
+        assert!(reading(data_type, p).is_some());
+    }
+    all
+}
+
+/// Every type and every sequence, with an empty payload, a battery and a paired device.
+fn types_and_sequences(s: &mut Stream) {
+    let device = devices(&mut s.c, 0x37, &[b"Al".to_vec()]);
+    for b in 0..=255 {
+        s.add(framed(b, s.bytes.len() as u8, &[]));
+        s.add(framed(b, 1, &[0x23, 0x00, 0x50, 0x01]));
+        s.add(framed(0x0C, b, &[0x23, 0x00, b, 0x01]));
+        s.add(framed(0x0E, b, &device));
+        s.noise();
+    }
+    for b in [0x00, 0x01, 0x02, 0x09, 0x0A, 0x0C, 0x0D, 0x0E, 0x10, 0x12, 0x19, 0x1A, 0x1C, 0x1D, 0x1E, END, SENTRY, START, 0xFF] {
+        s.frame(b, &device);
+        s.frame(b, &[0x07, 0x00, 0x00]);
+    }
+}
+
+/// Every command in both tables, alone and with a body that some decoders take.
+fn commands(s: &mut Stream) {
+    for command in 0..=255 {
+        for data_type in [0x0C, 0x0E] {
+            s.frame(data_type, &[command]);
+            s.frame(data_type, &[command, 0x00, 0x00, 0x00]);
+            s.frame(data_type, &[command, 0x02, 0x00, 0x3D]);
+        }
+    }
+}
+
+/// Every entry of the plan: accepted, with a byte less and a byte more, with other bytes, and under another type.
+fn planned(s: &mut Stream) {
+    for (data_type, command) in PLANNED {
+        for p in accepted(&mut s.c, data_type, command) {
+            s.frame(data_type, &p);
+            s.frame(data_type, &p[..p.len() - 1]);
+            s.frame(data_type, &[&p[..], &[0]].concat());
+            s.frame(data_type ^ 0x02, &p);
+            s.frame(data_type | 0x10, &p);
+            for at in 1..p.len().min(6) {
+                let mut q = p.clone();
+                q[at] = s.c.of(&[0, 1, 2, 3, q[at].wrapping_add(1), 0xFF, START]);
+                s.frame(data_type, &q);
+            }
+            s.noise();
+        }
+    }
+}
+
+/// Lists of 0 to 20 devices.
+fn paired(s: &mut Stream) {
+    for n in 0..=20 {
+        for command in [0x37, 0x39] {
+            let names: Vec<Vec<u8>> = (0..n).map(|_| name(&mut s.c)).collect();
+            let p = devices(&mut s.c, command, &names);
+            s.frame(0x0E, &p);
+            s.noise();
+            s.frame(0x0E, &p[..p.len() - 1]);
+            let mut q = p.clone();
+            q[2] = if s.c.below(2) == 0 { q[2] + 1 } else { q[2].saturating_sub(1) };
+            s.frame(0x0E, &q);
+        }
+    }
+    for n in [1, 60, 61, 62, 128, 254, 255] {
+        let names = [vec![b'x'; n], vec![], rule(2 * n as u64, n), rule(1, n)];
+        let p = devices(&mut s.c, 0x37, &names);
+        s.frame(0x0E, &p);
+    }
+}
+
+/// Spans of up to the limit and one byte more, with and without an entry.
+fn longest(s: &mut Stream) {
+    for n in [MAX_BUFFER - 1, MAX_BUFFER, MAX_BUFFER + 1] {
+        for data_type in [0x0E, 0x0C] {
+            // 29 devices with names of 255 bytes, and one with what is left of the payload.
+            let mut names = vec![vec![b'n'; 255]; 29];
+            names.push(vec![b'n'; n - 9 - 4 - 29 * 277 - 22]);
+            let mut p = vec![0x37, 0x02, 30];
+            for name in &names {
+                p.extend([b'a'; 17]);
+                p.extend([1, 0, 0, 0, name.len() as u8]);
+                p.extend(name);
+            }
+            p.push(7);
+            let frame = framed(data_type, 0, &p);
+            assert_eq!(frame.len(), n);
+            s.add(frame);
+        }
+    }
+}
+
+fn short_spans(s: &mut Stream) {
+    for n in 0..=8 {
+        for b in [0x00, 0x2C, SENTRY, START, 0x0C] {
+            s.add(between_markers(&vec![b; n]));
+            s.noise();
+        }
+    }
+    // Escapes that leave a body shorter than it must be.
+    for pairs in 1..=7 {
+        for more in 0..=7 {
+            s.add(between_markers(&[[SENTRY, 0x2D].repeat(pairs), vec![0; more]].concat()));
+        }
+    }
+    s.add(vec![START, SENTRY, 0x2C, 0, 0, 0, 0, 0, END]);
+}
+
+/// False checksums and lengths, one and both, and bad escapes.
+fn false_frames(s: &mut Stream) {
+    let device = devices(&mut s.c, 0x37, &[b"Al".to_vec()]);
+    for p in [vec![], vec![0x23, 0x00, 0x50, 0x01], device, vec![0x67, 0x17, 1, 1, 0, 1, 5], rule(2, 300)] {
+        let n = p.len() as u32;
+        let data_type = if n == 28 { 0x0E } else { 0x0C };
+        for off in [0, 1, 0x80, 0xFF] {
+            for declared in [n, n + 1, n.wrapping_sub(1), 0, n + 256, n + 65_536, n + (1 << 24), u32::MAX] {
+                s.add(escaped(&body(data_type, 1, declared, &p, off)));
+            }
+        }
+    }
+    for b in 0..=255 {
+        s.add(between_markers(&[0x0C, 0, 0, 0, 0, 4, 0x23, SENTRY, b, 1, 0x84]));
+    }
+    // A sentry last, alone and after a bad escape.
+    s.add(between_markers(&[0x0C, 0, 0, 0, 0, 4, 0x23, 0, 1, 0x84, SENTRY]));
+    s.add(between_markers(&[0x0C, 0, 0, 0, 0, SENTRY, 4, 0x23, 0, 1, 0x84, SENTRY]));
+    s.add(between_markers(&[0x0C, 0, 0, 0, 0, SENTRY, SENTRY, 0x23, 0, 1, 0x84]));
+}
+
+/// STARTs that are not escaped: unpack accepts them, and the frame packed again is another.
+fn raw_starts(s: &mut Stream) {
+    s.add(vec![START, 0, START, 0, 0, 0, 0, START, END]);
+    for _ in 0..60 {
+        let (data_type, command) = PLANNED[s.c.below(PLANNED.len())];
+        let all = accepted(&mut s.c, data_type, command);
+        let p = &all[s.c.below(all.len())];
+        let seq = s.c.of(&[0, 1, START]);
+        let mut inside = vec![];
+        for &b in &body(data_type, seq, p.len() as u32, p, 0) {
+            if b == START && s.c.below(4) > 0 {
+                inside.push(b);
+            } else {
+                escape_into(&[b], &mut inside);
+            }
+        }
+        s.add(between_markers(&inside));
+    }
+}
+
+/// Frames with a byte changed, put in or left out, so that some run into the next.
+fn damaged(s: &mut Stream) {
+    for _ in 0..400 {
+        let mut frame = s.parts[s.c.below(s.parts.len())].clone();
+        if frame.len() > 400 {
+            continue;
+        }
+        let at = s.c.below(frame.len());
+        let any = s.c.byte();
+        let b = s.c.of(&[0, END, SENTRY, START, 0x2D, 0xFF, any]);
+        match s.c.below(4) {
+            0 => frame.insert(at, b),
+            1 => drop(frame.remove(at)),
+            _ => frame[at] = b,
+        }
+        s.add(frame);
+    }
+}
+
+/// Anything of the above in any order, with noise between.
+fn mixed(s: &mut Stream) {
+    for _ in 0..600 {
+        let part = s.parts[s.c.below(s.parts.len())].clone();
+        if part.len() <= 2_000 {
+            s.bytes.extend(&part);
+            s.noise();
+        }
+    }
+}
+
+/// One span of each kind, and all of them over and over, until the replay program's pieces have ended at each place of each.
+fn every_cut(s: &mut Stream) {
+    let kinds = [
+        vec![START, END],
+        between_markers(&[0x0C, 0, 0, 0, 0, 0, 0x0C, SENTRY]),
+        between_markers(&[0x0C, 0, 0, 0, 0, 0, SENTRY, 0x0C]),
+        vec![START, SENTRY, 0x2C, 0, 0, 0, 0, 0, END],
+        vec![START, 1, 1, 0, 0, 0, 1, 2, END],
+        vec![START, 1, 1, 0, 0, 0, 1, 3, END],
+        framed(0x01, 1, &[]),
+        framed(0x0D, 0, &[0x23, 0x00, SENTRY, 0x01]),
+        vec![0, END, SENTRY],
+        framed(0x0C, 0, &[0x23, 0x00, 0x50, 0x01]),
+        framed(0x0C, START, &[0x57, 0x00, END, 2, SENTRY, START]),
+        between_markers(&[0x0C, START, 0, 0, 0, 4, 0x23, 0, START, 0, 0xAF]),
+        framed(0x0E, 1, &[&[0x37, 0x02, 1], &b"AA:BB:CC:DD:EE:F<"[..], &[END, SENTRY, 0, 0, 3], b"A>\xFF", &[0]].concat()),
+    ];
+    let all = kinds.concat();
+    let mut left: Vec<usize> = (0..all.len()).collect();
+    // No span is open here.
+    s.bytes.push(END);
+    while !left.is_empty() {
+        let at = s.bytes.len();
+        left.retain(|i| !is_cut(at + i));
+        s.bytes.extend(&all);
+        assert!(s.bytes.len() <= 900_000);
+    }
+}
+
+/// Whether a piece ends here: they are of 1, 2, .. 97, 1, 2, .. bytes, so that 97 of them make 4,753.
+fn is_cut(at: usize) -> bool {
+    (0..97).any(|n| n * (n + 1) / 2 == at % 4_753)
+}
