@@ -1,3 +1,4 @@
 pub mod LawsReading
 pub mod LawsEqualizer
 pub mod LawsSupport
+pub mod Walk

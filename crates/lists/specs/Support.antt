@@ -1,12 +1,17 @@
 -- 01, "Messages and decoders": `decode_support_functions`.
-use Prim.Native.Nat.{ℕ, _+_, _*_, _/_}
+use Prim.Native.Nat.{ℕ, zero, suc, _+_, _-_, _*_, _≤_}
+use mathlib.Core.Path.{_≡_}
 use mathlib.Core.Bool.{Bool, _&&_}
-use mathlib.Core.List.{List, [], _++_}
+use mathlib.Core.List.{List, [], _∷_, _++_}
 use lib.Dec.{eqb, ltb}
 use lib.ListN.{length, getD, drop}
 use Rattle.frame.specs.Outcome.{Outcome, accepted, refused, pick}
 use Rattle.frame.specs.Refusal.{refusalTold}
 use Rattle.lists.specs.declared.support.Table.{Table}
+use Rattle.lists.specs.declared.support.SupportFunction.{SupportFunction}
+use Rattle.lists.specs.declared.support.SupportRecord.{SupportRecord}
+use Rattle.lists.specs.declared.support.SupportRecord.the-variants.{Function, NoRecord}
+use Rattle.lists.specs.declared.support.Placing.{Placing}
 use Rattle.lists.specs.declared.support.SupportCheck.{SupportCheck}
 use Rattle.lists.specs.declared.support.SupportCheck.the-variants as Check
 use Rattle.lists.specs.declared.support.SupportAnswer.{SupportAnswer}
@@ -33,22 +38,45 @@ isSupport p = eqb (getD p 1 0) 0x00 && eqb (length p) (3 + 2 * getD p 2 0)
 unfoldable pub checkOf : List ℕ → Outcome ℕ
 checkOf p = pick (isSupport p) (accepted (getD p 2 0)) (refused 19 [])
 
--- written at the front, what is behind stays
-abbrev pub over : (bytes out : List ℕ) → List ℕ
-over bytes out = bytes ++ drop (length bytes) out
+-- the function i of the list: its code, and its priority
+abbrev pub functionAt : List ℕ → ℕ → SupportFunction
+functionAt p i = record { code = getD p (3 + 2 * i) 0; priority = getD p (3 + 2 * i + 1) 0 }
 
--- what a call comes to: the answer, and the lent records, two bytes each, code and priority
+-- the first n functions of the list, in order
+unfoldable pub functions : List ℕ → ℕ → List SupportFunction
+functions p zero = []
+functions p (suc n) = functions p n ++ (functionAt p n ∷ [])
+
+-- "accepted code and priority pairs are written to the first places"; those behind stay
+abbrev pub filled : List ℕ → ℕ → List SupportFunction → List SupportFunction
+filled p n records = functions p n ++ drop n records
+
+-- what a call comes to: the answer, and the lent records
 pub record SupportEffect : Type 0 where
   pub answer : Outcome SupportList
-  pub records : List ℕ
+  pub records : List SupportFunction
 
-abbrev pub supportBy : Outcome ℕ → Table → (p records : List ℕ) → SupportEffect
+abbrev pub supportBy : Outcome ℕ → Table → List ℕ → List SupportFunction → SupportEffect
 supportBy (refused n vs) table p records = record { answer = refused n vs; records = records }
 supportBy (accepted count) table p records =
-    pick (ltb (length records / 2) count)
+    pick (ltb (length records) count)
     (record { answer = refused 20 []; records = records })
-    (record { answer = accepted (record { table = table; count = count }); records = over (drop 3 p) records })
+    (record { answer = accepted (record { table = table; count = count }); records = filled p count records })
 
 -- 19, then 20 where the list is longer than the lent records; the list goes into the records
-unfoldable pub supportCall : Table → (p records : List ℕ) → SupportEffect
+unfoldable pub supportCall : Table → List ℕ → List SupportFunction → SupportEffect
 supportCall table p records = supportBy (checkOf p) table p records
+
+-- the record at an index, or that there is none
+abbrev pub recordBy : List SupportFunction → SupportRecord
+recordBy [] = NoRecord
+recordBy (f ∷ fs) = Function (f .code) (f .priority)
+
+unfoldable pub recordOf : List SupportFunction → ℕ → SupportRecord
+recordOf records index = recordBy (drop index records)
+
+-- what the helper of the decoder answers, whatever the lent records hold: there is room for what is written, and it is in the list. 01 does not speak of it
+abbrev pub Placed : Table → List ℕ → ℕ → Placing → Type 0
+Placed table p room r =
+    (r .places ≤ room) × (2 * r .places ≤ length p - 3)
+    × ((records : List SupportFunction) → length records ≡ room → supportCall table p records ≡ record { answer = supportTold (r .answer); records = filled p (r .places) records })

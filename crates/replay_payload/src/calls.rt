@@ -1,6 +1,7 @@
 // Each reading, as text.
 use crate::ranges::place_of;
 use crate::ranges::range;
+use crate::records::in_records;
 use capability::CapabilityAnswer;
 use capability::CapabilityReport;
 use lists::EqAnswer;
@@ -300,7 +301,7 @@ fn support_check(text: &mut [u8], k: usize, a: SupportCheck) -> usize {
 
 fn support(table: Table, payload: &[u8], records: &mut [u8], text: &mut [u8], k: usize) -> usize {
     fill(records, 84);
-    let a = lists::decode_support_functions(table, payload, records);
+    let a = in_records(table, payload, records);
     let next = support_answer(text, k, a);
     let shown = bytes(text, next, records);
     support_check(text, shown, lists::check_support_functions(payload))

@@ -122,10 +122,10 @@ fn one(
     if n > kept.len() {
         return k;
     }
-    if m > records.len() {
+    if m > records.len() / 2 {
         return k;
     }
-    let lent = &mut records[..m];
+    let lent = &mut records[..2 * m];
     reading(op, table, &kept[..n], lent, text, k)
 }
 

@@ -10,7 +10,7 @@
 //   c N              noise capability
 //   e N              equalizer: preset, count, steps, the shape and its bias, and the sum of the gains' places
 //   p N              paired devices: the count, and the lookup of each index up to the count
-//   f N M TABLE      support functions, in M bytes lent; and the check that writes nothing
+//   f N M TABLE      support functions, in M records lent; and the check that writes nothing
 //   g N              general setting
 //   y N              whether the bytes are text
 //   v N AT L         the reading of letter L for each of the 256 bytes at the place AT, by their sum
@@ -20,6 +20,7 @@
 mod calls;
 mod lines;
 mod ranges;
+mod records;
 mod strings;
 
 fn main() {

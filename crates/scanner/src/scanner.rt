@@ -8,6 +8,7 @@ ghost use lib.Seq.{paste};
 ghost use Rattle.scanner.specs.Scanner.{heldOf, openCall, openTold, pushCall, pushTold};
 ghost use Rattle.scanner.specs.Steps.{checkedTold};
 
+#[repr(C)]
 pub struct Scanner {
     pub limit: usize,
     pub count: usize,

@@ -161,14 +161,14 @@ fn devices(payload: &[u8]) -> String {
     out + "refused 21 "
 }
 
-/// OURS: the pairs go to the front of `m` bytes lent; 20 where they do not fit, and nothing changes.
+/// OURS: the pairs go to the first of `m` records lent, which are shown as bytes; 20 where they do not fit, and nothing changes.
 fn support(table: Table, payload: &[u8], m: usize) -> String {
-    let mut records = lent(m);
+    let mut records = lent(2 * m);
     let Some(Reading::SupportFunctions { table, functions }) = decoded(payload, |m| decode_support_functions(table, m)) else {
         return format!("refused 19 {}refused 19 ", shown(&records));
     };
     let count = functions.len();
-    if m / 2 < count {
+    if m < count {
         return format!("refused 20 {}{count} ", shown(&records));
     }
     for (i, f) in functions.iter().enumerate() {
@@ -223,7 +223,7 @@ impl Session {
         let mut total = 0;
         for b in 0..=255 {
             self.kept[at] = b;
-            total = sum(total, reading(letter, Table::One, &self.kept[..n], 1024).as_bytes());
+            total = sum(total, reading(letter, Table::One, &self.kept[..n], 512).as_bytes());
         }
         self.list.add(format!("v {n} {at} {letter}"), total.to_string());
     }
@@ -441,7 +441,7 @@ fn supports(s: &mut Session) {
         let p = [&[0x07, 0x00, n as u8][..], &rule(14, 2 * n)].concat();
         s.keep(&p);
         for len in p.len() - 1..=p.len() + 1 {
-            for m in [0, 2 * n, 2 * n + 1, 2 * n + 2, (2 * n).saturating_sub(1), (2 * n).saturating_sub(2), 1024] {
+            for m in [0, n.saturating_sub(1), n, n + 1, 512] {
                 s.support(len, m, Table::One);
                 s.support(len, m, Table::Two);
             }

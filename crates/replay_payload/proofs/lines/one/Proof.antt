@@ -15,6 +15,7 @@ one-spec =
     (λ c. search needs)
     (λ c. search needs)
     (λ c. search needs)
+    (λ c. search needs)
     (λ c. sym (length-take-le _ _ (search needs)))
     (λ c. sym (length-take-le _ _ (search needs)))
     (λ c κs. search needs)

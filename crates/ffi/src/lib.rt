@@ -1,0 +1,2 @@
+// The exported calls, for C and Rust to link.
+pub mod lent;
