@@ -2,18 +2,18 @@
 use Prim.Native.Nat.{ℕ, zero, suc, _+_, _-_, _*_, _≤_, _<_}
 use mathlib.Core.Path.{_≡_, refl, sym, ap, _∙_}
 use mathlib.Core.Bool.{Bool, true, false}
-use mathlib.Core.Logic.{_⊎_, inl, inr}
-use mathlib.Core.List.{List, [], _∷_, _++_, append-assoc}
+use mathlib.Core.Logic.{_⊎_, inl, inr, ⊎-elim}
+use mathlib.Core.List.{List, [], _∷_, _++_, append-assoc, append-nil}
 use native.Mathlib.Numerals.{add-one}
 use native.Mathlib.Omega.{arith}
-use lib.ListN.{length, drop, getD, length-append, drop-of-length-le}
+use lib.ListN.{length, take, drop, getD, length-append, drop-of-length-le}
 use lib.Seq.{drop-cons}
 use lib.Dec.{eqb}
 use borrow.Author.Tests.{eq-eqb, ne-eqb}
 use Rattle.frame.specs.Outcome.{Outcome, accepted, refused, pick}
 use Rattle.frame.specs.Escaping.{START, END, SENTRY, escapedByte, eachOf, escapeOf}
 use Rattle.frame.proofs.LawsTests.{by-eqb}
-use Rattle.frame.proofs.LawsWriting.{Begins}
+use Rattle.frame.proofs.LawsWriting.{Begins, part-begins}
 
 -- what holds of the four forms of an escaped byte holds of every one
 pub each-byte : (P : ℕ → List ℕ → Type 0) → P 0x3C (0x3D ∷ 0x2C ∷ []) → P 0x3D (0x3D ∷ 0x2D ∷ []) → P 0x3E (0x3D ∷ 0x2E ∷ [])
@@ -34,9 +34,16 @@ module _ (g : ℕ → List ℕ) where
   each-append [] ys = refl
   each-append (x ∷ xs) ys = rw (each-append xs ys) (sym (append-assoc (g x) (eachOf g xs) (eachOf g ys)))
 
+  pub each-one : (b : ℕ) → eachOf g (b ∷ []) ≡ g b
+  unfolding eachOf
+  each-one b = append-nil (g b)
+
   pub each-step : (src : List ℕ) (i : ℕ) → i < length src → Begins (eachOf g (drop i src)) (g (getD src i 0)) (eachOf g (drop (i + 1) src))
   unfolding eachOf
   each-step src i h = record { splits = rw (drop-cons src i 0, add-one) }
+
+  pub each-part : (src : List ℕ) (i e : ℕ) → i ≤ e → Begins (eachOf g (drop i src)) (eachOf g (take (e - i) (drop i src))) (eachOf g (drop e src))
+  each-part src i e h = record { splits = ap (eachOf g) (part-begins src i e h .splits) ∙ each-append (take (e - i) (drop i src)) (drop e src) }
 
   pub each-end : (src : List ℕ) (i : ℕ) → length src ≤ i → eachOf g (drop i src) ≡ []
   unfolding eachOf
@@ -67,3 +74,25 @@ plain b (inr h) = plain-byte b (λ e. omega arith) (λ e. omega arith) (λ e. om
 pub each-length : (g : ℕ → List ℕ) (src : List ℕ) (i : ℕ) → i < length src
     → length (eachOf g (drop i src)) ≡ length (g (getD src i 0)) + length (eachOf g (drop (i + 1) src))
 each-length g src i h = ap length (each-step g src i h .splits) ∙ length-append (g (getD src i 0)) (eachOf g (drop (i + 1) src))
+
+pub part-length : (g : ℕ → List ℕ) (src : List ℕ) (i e : ℕ) → i ≤ e
+    → length (eachOf g (drop i src)) ≡ length (eachOf g (take (e - i) (drop i src))) + length (eachOf g (drop e src))
+part-length g src i e h = ap length (each-part g src i e h .splits) ∙ length-append (eachOf g (take (e - i) (drop i src))) (eachOf g (drop e src))
+
+-- bytes that escaping makes no longer are left as they are
+one-or-two : (b : ℕ) → (escapedByte b ≡ b ∷ []) ⊎ (length (escapedByte b) ≡ 2)
+one-or-two = each-byte (λ b e. (e ≡ b ∷ []) ⊎ (length e ≡ 2)) (inr refl) (inr refl) (inr refl) (λ b _ _ _. inl refl)
+
+no-shorter : (src : List ℕ) → length src ≤ length (escapeOf src)
+unfolding eachOf
+no-shorter [] = omega arith
+no-shorter (b ∷ bs) =
+    ⊎-elim (λ e. omega (arith, length-append (escapedByte b) (escapeOf bs), ap length e, no-shorter bs))
+    (λ e. omega (arith, length-append (escapedByte b) (escapeOf bs), e, no-shorter bs)) (one-or-two b)
+
+pub no-longer : (src : List ℕ) → length (escapeOf src) ≡ length src → escapeOf src ≡ src
+unfolding eachOf
+no-longer [] h = refl
+no-longer (b ∷ bs) h =
+    ⊎-elim (λ e. ap (λ (xs : List ℕ). xs ++ escapeOf bs) e ∙ ap (λ (xs : List ℕ). b ∷ xs) (no-longer bs (omega (arith, length-append (escapedByte b) (escapeOf bs), ap length e))))
+    (λ e. absurd (omega (arith, length-append (escapedByte b) (escapeOf bs), e, no-shorter bs))) (one-or-two b)

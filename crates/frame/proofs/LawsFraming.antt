@@ -17,20 +17,23 @@ use Rattle.frame.specs.Escaping.{START, END, escapedByte, escapeOf, unes
 use Rattle.frame.specs.Framing.{lengthField, bodyOf, frameOf, packCall, Header, lengthOf, bodyChecked, thenChecked, inner, marked, UnpackEffect, unpackBy, unpackCall}
 use Rattle.frame.specs.declared.data_type.DataType.{DataType}
 use Rattle.frame.proofs.LawsSum.{checksum-append}
-use Rattle.frame.proofs.LawsEscaping.{each-append}
+use Rattle.frame.proofs.LawsEscaping.{each-append, each-one, each-width, escaped-width}
 use Rattle.frame.proofs.LawsUnescaping.{unescape-shorter}
 
 -- a frame, written part by part
 module _ (h p : List ℕ) (s : ℕ) where
-  pub frame-parts : frameOf (h ++ p ++ (s ∷ [])) ≡ START ∷ (escapeOf h ++ escapeOf p ++ escapeOf (s ∷ [])) ++ (END ∷ [])
+  pub frame-parts : frameOf (h ++ p ++ (s ∷ [])) ≡ START ∷ (escapeOf h ++ escapeOf p ++ escapedByte s) ++ (END ∷ [])
   unfolding frameOf
-  frame-parts = rw (each-append escapedByte (h ++ p) (s ∷ []), each-append escapedByte h p)
+  frame-parts = rw (each-append escapedByte (h ++ p) (s ∷ []), each-append escapedByte h p, each-one escapedByte s)
 
-  pub parts-length : length (frameOf (h ++ p ++ (s ∷ []))) ≡ 2 + length (escapeOf h) + length (escapeOf p) + length (escapeOf (s ∷ []))
+  pub parts-length : length (frameOf (h ++ p ++ (s ∷ []))) ≡ 2 + length (escapeOf h) + length (escapeOf p) + length (escapedByte s)
   parts-length = ap length frame-parts ∙ simp length-append (omega arith)
 
+  pub parts-width : length (frameOf (h ++ p ++ (s ∷ []))) ≤ 4 + 2 * length h + 2 * length p
+  parts-width = omega (arith, parts-length, each-width escapedByte escaped-width h, each-width escapedByte escaped-width p, escaped-width s)
+
 pub frame-stored : (h p : List ℕ) (s : ℕ) {out after : List ℕ} {n : ℕ}
-    → Stored ((START ∷ []) ++ escapeOf h ++ escapeOf p ++ escapeOf (s ∷ []) ++ (END ∷ [])) out 0 after n → Stored (frameOf (h ++ p ++ (s ∷ []))) out 0 after n
+    → Stored ((START ∷ []) ++ escapeOf h ++ escapeOf p ++ escapedByte s ++ (END ∷ [])) out 0 after n → Stored (frameOf (h ++ p ++ (s ∷ []))) out 0 after n
 frame-stored h p s t = rw (frame-parts h p s) t
 
 pub pack-long : (kind : DataType) (seq : ℕ) (p out : List ℕ) → 4294967295 < length p → packCall kind seq p out ≡ record { answer = refused 17 []; out = out }

@@ -5,8 +5,8 @@ use mathlib.Core.List.{List, [], _∷_, _++_, append-assoc, append-nil}
 use native.Mathlib.Nat.{add-suc, suc-add, add-zero, zero-add, sub-zero}
 use native.Mathlib.Numerals.{add-one}
 use native.Mathlib.Omega.{arith}
-use lib.ListN.{length, take, drop, set, replicate, length-append, length-take, length-set, length-replicate}
-use lib.Seq.{sets, sets-eq, length-sets, take-suc-set, take-all, append-snoc}
+use lib.ListN.{length, take, drop, getD, set, replicate, length-append, length-take, length-set, length-replicate, take-append-drop}
+use lib.Seq.{sets, sets-eq, length-sets, take-suc-set, take-all, append-snoc, drop-cons, drop-drop}
 use borrow.Author.Tests.{lt-ltb, le-ltb}
 use Rattle.frame.specs.Outcome.{Outcome, accepted, refused}
 use Rattle.frame.specs.Writing.{WriteEffect, over, zeros, zeroedFrom, writeCall}
@@ -22,6 +22,16 @@ front xs out h = sets-eq xs out 0 (omega arith) ∙ ap (λ (k : ℕ). xs ++ drop
 -- rest is xs and then more
 pub record Begins (rest xs more : List ℕ) : Type 0 where
   pub splits : rest ≡ xs ++ more
+
+-- from i on: the byte there, or the bytes up to e, and then what is behind
+pub byte-begins : (src : List ℕ) (i : ℕ) → i < length src → Begins (drop i src) (getD src i 0 ∷ []) (drop (i + 1) src)
+byte-begins src i h = record { splits = rw (drop-cons src i 0, add-one) }
+
+pub part-begins : (src : List ℕ) (i e : ℕ) → i ≤ e → Begins (drop i src) (take (e - i) (drop i src)) (drop e src)
+part-begins src i e h =
+    let e′ : i + (e - i) ≡ e = omega arith in
+    let behind : drop (e - i) (drop i src) ≡ drop e src = drop-drop (e - i) i src ∙ ap (λ (n : ℕ). drop n src) e′ in
+    record { splits = sym (take-append-drop (e - i) (drop i src)) ∙ ap (λ (xs : List ℕ). take (e - i) (drop i src) ++ xs) behind }
 
 -- what is still to come, stored from here on, gives what the whole gives from the base
 pub record Writing (whole rest out₀ : List ℕ) (base : ℕ) (out : List ℕ) (at : ℕ) : Type 0 where

@@ -4,6 +4,8 @@ use crate::escaping::END;
 use crate::escaping::START;
 use crate::escaping::escape_at;
 use crate::escaping::escaped_len;
+use crate::escaping::put_each;
+use crate::escaping::put_escaped;
 use crate::escaping::unescape;
 use crate::refusal::Refusal;
 use crate::sum::checksum;
@@ -14,6 +16,7 @@ ghost use mathlib.Core.Path.{_≡_};
 ghost use Prim.Native.Nat.{_+_, _≤_};
 ghost use mathlib.Core.List.{[], _∷_, _++_};
 ghost use lib.ListN.{length, take};
+ghost use lib.Dec.{leb};
 ghost use Rattle.frame.specs.Writing.{writeCall, writtenTold};
 ghost use Rattle.frame.specs.Framing.{frameOf, packCall, ackCall, unpackedTold, lengthOf, bodyChecked, unpackBy, unpackCall};
 
@@ -27,21 +30,32 @@ pub enum Unpacked {
     Refused(Refusal),
 }
 
+// Whether the frame of the body that is `head`, the payload and `sum` has at most `room` bytes.
+fn frame_fits(head: &[u8], payload: &[u8], sum: u8, room: usize) -> bool
+    requires { ⌜ (length (now head) ≤ 6) × (length (now payload) ≤ 4294967295) ⌝ }
+    ensures { λ r. ⌜ r ≡ leb (length (frameOf (now (head .entry) ++ now (payload .entry) ++ (sum ∷ [])))) room ⌝ }
+{
+    // no byte becomes more than two
+    if 16 + 2 * payload.len() <= room {
+        return true;
+    }
+    let tail = [sum];
+    2 + escaped_len(head) + escaped_len(payload) + escaped_len(&tail) <= room
+}
+
 // The frame of the body that is `head`, the payload and `sum`.
-fn write_frame(head: &[u8; 6], payload: &[u8], sum: u8, out: &mut [u8]) -> Written
-    requires { ⌜ length (now payload) ≤ 4294967295 ⌝ }
+fn write_frame(head: &[u8], payload: &[u8], sum: u8, out: &mut [u8]) -> Written
+    requires { ⌜ (length (now head) ≤ 6) × (length (now payload) ≤ 4294967295) ⌝ }
     ensures { λ r. ⌜ writtenTold r ≡ writeCall (frameOf (now (head .entry) ++ now (payload .entry) ++ (sum ∷ []))) (now (out .entry)) .answer ⌝ }
     ensures { λ _. ⌜ now (out .exit) ≡ writeCall (frameOf (now (head .entry) ++ now (payload .entry) ++ (sum ∷ []))) (now (out .entry)) .out ⌝ }
 {
-    let tail = [sum];
-    let n = 2 + escaped_len(head) + escaped_len(payload) + escaped_len(&tail);
-    if out.len() < n {
+    if !frame_fits(head, payload, sum, out.len()) {
         return Written::Refused(Refusal::OutputTooShort);
     }
     out[0] = START;
-    let a = escape_at(head, out, 1);
+    let a = put_each(head, out, 1);
     let b = escape_at(payload, out, a);
-    let c = escape_at(&tail, out, b);
+    let c = put_escaped(sum, out, b);
     out[c] = END;
     Written::Bytes(c + 1)
 }

@@ -36,14 +36,17 @@ pub fn plan_fine(plan: &[u8]) -> bool
     if plan.len() != PLAN_LEN {
         return false;
     }
+    // never left early, so that it vectorises
+    let mut fine = true;
     let mut i = 0;
     while i < plan.len() {
-        if plan[i] > LAST_ENTRY {
-            return false;
-        }
+        let e = plan[i];
         i += 1;
+        if e > LAST_ENTRY {
+            fine = false;
+        }
     }
-    true
+    fine
 }
 
 // The entry at a place; 0, "none", behind the end.

@@ -31,7 +31,7 @@ admits s store held a =
     rw (le-ltb (s .limit) 9 (a .low), le-ltb 65536 (s .limit) (a .high), le-ltb (length store) (s .limit + 1) (a .room), le-ltb (length store) (s .count) (a .fits), a .first)
 
 -- these bytes at the front of a store as long are held
-held-front : (s : Scanner) (store held : List ℕ) → Admitted s store held → (n : ℕ) (xs rest : List ℕ) → length xs ≡ n → length (xs ++ rest) ≡ length store
+pub held-front : (s : Scanner) (store held : List ℕ) → Admitted s store held → (n : ℕ) (xs rest : List ℕ) → length xs ≡ n → length (xs ++ rest) ≡ length store
     → heldOf (record { limit = s .limit; count = n }) (xs ++ rest) ≡ accepted xs
 held-front s store held a n xs rest e l =
     admits (record { limit = s .limit; count = n }) (xs ++ rest) xs

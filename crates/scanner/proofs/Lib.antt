@@ -6,3 +6,4 @@ pub mod LawsSpans
 pub mod LawsCalls
 pub mod Cases
 pub mod Walk
+pub mod LawsSkip

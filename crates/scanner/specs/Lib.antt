@@ -3,3 +3,4 @@ pub mod Scanner
 pub mod Search
 pub mod Take
 pub mod Steps
+pub mod Skip

@@ -3,6 +3,7 @@ pub mod lent;
 pub mod next_raw;
 pub mod scanner;
 pub mod search;
+pub mod skipping;
 
 pub use next_raw::TakeAnswer;
 pub use next_raw::Taken;
@@ -15,5 +16,10 @@ pub use scanner::Scanner;
 pub use scanner::open;
 pub use scanner::push;
 pub use search::Found;
+pub use search::Sight;
 pub use search::find;
 pub use search::look;
+pub use search::seek;
+pub use skipping::SkipAnswer;
+pub use skipping::Skipped;
+pub use skipping::skip;

@@ -38,7 +38,7 @@ fn shift(store: &mut [u8], from: usize, to: usize)
 }
 
 // Those bytes stay, and nothing else.
-fn keep(store: &mut [u8], from: usize, to: usize)
+pub(crate) fn keep(store: &mut [u8], from: usize, to: usize)
     requires { ⌜ (from ≤ to) × (to ≤ length (now store)) ⌝ }
     ensures { λ _. ⌜ now (store .exit) ≡ zeroed (slice from to (now (store .entry))) (length (now (store .entry))) ⌝ }
 {

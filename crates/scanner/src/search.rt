@@ -34,7 +34,8 @@ pub enum Sight {
     Both { at: usize, len: usize },
 }
 
-pub(crate) fn seek(held: &[u8]) -> Sight
+// The first span of these bytes, or as much of one as there is.
+pub fn seek(held: &[u8]) -> Sight
     ensures { λ r. ⌜ r ≡ sightOf (now (held .entry)) ⌝ }
 {
     let at = position(held, 0, START);

@@ -1,8 +1,9 @@
-use Prim.Native.Nat.{_-_, _≤_}
-use mathlib.Core.Path.{refl}
+use Prim.Native.Nat.{_≤_}
+use mathlib.Core.Path.{refl, sym, _∙_}
 use native.Mathlib.Omega.{arith}
 use lib.ListN.{length}
 use borrow.Author.Needs.{needs}
+use borrow.Author.Tests.{leb-true, leb-false, not-true, not-false}
 use Rattle.frame.specs.Escaping.{escapeOf}
 use Rattle.frame.proofs.LawsWriting.{write-fits, write-refused}
 use Rattle.frame.proofs.escaping.escape.Statement.{statement}
@@ -11,13 +12,10 @@ use Rattle.frame.proofs.escaping.escape.Tie as tie
 returns : tie.Need-returns
 returns c =
     let a = c .before .before .before .before .args in
-    rw (write-refused (escapeOf (a .src .now)) (a .out .now) (omega arith)) (refl, refl)
+    rw (write-refused (escapeOf (a .src .now)) (a .out .now) (leb-false (length (escapeOf (a .src .now))) (length (a .out .now)) (sym (c .before .escape-fits .ensures) ∙ not-true _ (c .if1 .taken)))) (refl, refl)
 
-returns-2 : tie.Need-returns-2
-returns-2 c =
-    let a = c .before .before .before .before .before .before .before .before .args in
-    let fits : length (escapeOf (a .src .now)) ≤ length (a .out .now) = omega arith in
-    rw (write-fits fits (c .before .before .escape-at .ensures)) (refl, refl)
+fits : (c : tie.Else1) → let a = c .before .before .before .before .args in length (escapeOf (a .src .now)) ≤ length (a .out .now)
+fits c = leb-true _ _ (sym (c .before .escape-fits .ensures) ∙ not-false _ (c .if1 .left))
 
 pub escape-spec : {M : Type 1} → statement M
 escape-spec =
@@ -25,6 +23,6 @@ escape-spec =
     (tie.spec
     (λ c κs. search needs)
     returns
-    (λ c κs. search needs)
+    (λ c κs. omega (arith, fits (c .before)))
     (λ c. search needs)
-    returns-2)
+    (λ c. rw (write-fits (fits (c .before .before .before .before)) (c .before .before .escape-at .ensures)) (refl, refl)))

@@ -1,8 +1,9 @@
 use Prim.Native.Nat.{_-_, _≤_}
 use native.Mathlib.Omega.{arith}
-use lib.ListN.{length, drop}
+use native.Mathlib.Nat.{le-of-lt}
+use lib.ListN.{length, drop, length-take, length-drop}
 use Rattle.frame.specs.Escaping.{escapedByte, escapeOf}
-use Rattle.frame.proofs.LawsEscaping.{each-step, each-end}
+use Rattle.frame.proofs.LawsEscaping.{each-part, each-end}
 use Rattle.frame.proofs.LawsWriting.{Writing, begin, room-for, step, stored}
 use Rattle.frame.proofs.escaping.escape_at.Statement.{statement}
 use Rattle.frame.proofs.escaping.escape_at.Tie as tie
@@ -13,10 +14,15 @@ Inv-loop src out₀ at next₀ i₀ out next i = (i ≤ length src) × Writing (
 abbrev μ-loop : tie.MeasureT-loop
 μ-loop src out₀ at next₀ i₀ out next i = length src - i
 
+put-block-requires : tie.Need-put-block-requires Inv-loop μ-loop
+put-block-requires c κs =
+    let b = c .before .before in
+    (simp (length-take, length-drop) (omega arith), room-for (b .before .before .loop .inv .1) (each-part escapedByte _ _ _ (le-of-lt (b .block-end .ensures .0))))
+
 loop-again : tie.Need-loop-again Inv-loop μ-loop
 loop-again c =
-    let l = c .before .before .before .before .before in
-    (omega arith, step (l .before .loop .inv .1) (each-step escapedByte _ _ (l .loop-test .taken)) (c .before .before .put-escaped .ensures))
+    let b = c .before .before .before .before .before in
+    (omega arith, step (b .before .before .loop .inv .1) (each-part escapedByte _ _ _ (le-of-lt (b .block-end .ensures .0))) (c .before .before .put-block .ensures))
 
 pub escape-at-spec : {M : Type 1} → statement M
 escape-at-spec =
@@ -25,9 +31,11 @@ escape-at-spec =
     Inv-loop
     μ-loop
     (λ c. (omega arith, begin (omega arith)))
+    (λ c κs. omega arith)
     (λ c. omega arith)
-    (λ c κs. room-for (c .before .before .before .loop .inv .1) (each-step escapedByte _ _ (c .before .before .loop-test .taken)))
     (λ c. omega arith)
+    (λ c. omega arith)
+    put-block-requires
     (λ c. omega arith)
     loop-again
     (λ c. c .before .loop .inv .1 .same)
