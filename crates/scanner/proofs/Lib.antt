@@ -1,6 +1,7 @@
 pub mod LawsStore
 pub mod LawsScanner
 pub mod LawsSearch
+pub mod LawsPlace
 pub mod LawsTake
 pub mod LawsSpans
 pub mod LawsCalls

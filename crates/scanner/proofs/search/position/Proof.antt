@@ -1,10 +1,11 @@
 -- The invariant: from i on the search ends where it ends from the start.
-use Prim.Native.Nat.{_+_, _-_, _≤_}
-use mathlib.Core.Path.{_≡_, refl, sym, _∙_}
+use Prim.Native.Nat.{ℕ, _+_, _-_, _≤_}
+use mathlib.Core.Path.{_≡_, refl, ap, sym, _∙_}
 use native.Mathlib.Omega.{arith}
-use lib.ListN.{length, drop}
+use lib.ListN.{length, drop, length-take, length-drop}
 use Rattle.scanner.specs.Steps.{placeOf}
-use Rattle.scanner.proofs.LawsSearch.{place-step, place-here, place-end}
+use Rattle.scanner.proofs.LawsSearch.{place-here, place-end}
+use Rattle.scanner.proofs.LawsPlace.{place-in, place-behind}
 use Rattle.scanner.proofs.search.position.Statement.{statement}
 use Rattle.scanner.proofs.search.position.Tie as tie
 
@@ -14,15 +15,15 @@ Inv-loop bytes from b i₀ i = (i ≤ length bytes) × (i + placeOf b (drop i by
 abbrev μ-loop : tie.MeasureT-loop
 μ-loop bytes from b i₀ i = length bytes - i
 
-returns : tie.Need-returns Inv-loop μ-loop
-returns c =
-    let s = c .before .before .before in
-    sym (place-here (s .before .args .b) (s .before .args .bytes .now) (s .loop .i) (omega arith) (c .if1 .taken)) ∙ s .loop .inv .1
+returns-2 : tie.Need-returns-2 Inv-loop μ-loop
+returns-2 c =
+    let b = c .before .before .before in
+    ap (λ (n : ℕ). b .before .before .loop .i + n) (c .before .first-in .ensures) ∙ sym (place-in _ _ _ _ (b .block-end .ensures .0) (b .block-end .ensures .1) (rw (← c .before .first-in .ensures) (c .if3 .taken))) ∙ b .before .before .loop .inv .1
 
 loop-again : tie.Need-loop-again Inv-loop μ-loop
 loop-again c =
-    let s = c .before .before .before in
-    (omega arith, sym (place-step (s .before .args .b) (s .before .args .bytes .now) (s .loop .i) (omega arith) (c .if1 .left)) ∙ s .loop .inv .1)
+    let b = c .before .before .before in
+    (omega arith, sym (place-behind _ _ _ _ (b .block-end .ensures .0) (b .block-end .ensures .1) (rw (← c .before .first-in .ensures) (c .if3 .left))) ∙ b .before .before .loop .inv .1)
 
 pub position-spec : {M : Type 1} → statement M
 position-spec =
@@ -30,10 +31,17 @@ position-spec =
     (tie.spec
     Inv-loop
     μ-loop
+    (λ c. omega arith)
+    (λ c. let a = c .before .before .before .before .args in sym (place-here (a .b) (a .bytes .now) (a .from) (omega arith) (c .if2 .taken)))
     (λ c. (omega arith, refl))
+    (λ c κs. omega arith)
     (λ c. omega arith)
-    returns
     (λ c. omega arith)
+    (λ c. omega arith)
+    (λ c κs. simp (length-take, length-drop) (omega arith))
+    (λ c. omega arith)
+    (λ c. omega arith)
+    returns-2
     (λ c. omega arith)
     loop-again
     (λ c. sym (place-end _ _ _ (c .loop-test .left)) ∙ c .before .loop .inv .1))
