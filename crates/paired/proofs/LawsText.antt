@@ -1,15 +1,17 @@
 -- Laws of the text check.
-use Prim.Native.Nat.{ℕ, _+_, _≤_, _<_}
-use mathlib.Core.Path.{_≡_, refl, ap, _∙_}
+use Prim.Native.Nat.{ℕ, _+_, _-_, _≤_, _<_}
+use mathlib.Core.Path.{_≡_, refl, ap, sym, _∙_}
 use mathlib.Core.Bool.{Bool, true, false}
 use mathlib.Core.List.{List, [], _∷_, _++_}
+use native.Mathlib.Omega.{arith}
 use native.Mathlib.Numerals.{add-one}
 use lib.Dec.{leb}
-use lib.ListN.{length, drop, getD, drop-of-length-le}
+use lib.ListN.{length, take, drop, getD, drop-of-length-le}
 use lib.Seq.{drop-cons}
 use borrow.Author.Tests.{le-leb, lt-leb}
 use Rattle.frame.specs.Outcome.{pick}
-use Rattle.paired.specs.Text.{within, next, ends, placeAfter, textFrom, isTextOf}
+use Rattle.frame.proofs.LawsWriting.{part-begins}
+use Rattle.paired.specs.Text.{within, afterLead, next, ends, placeAfter, textFrom, isTextOf}
 use Rattle.paired.specs.declared.text.Place.{Place}
 use Rattle.paired.specs.declared.text.Place.the-variants.{Lead, Follower, Failed}
 
@@ -48,3 +50,30 @@ after-step p xs i h = rw (add-one, drop-cons xs i 0)
 pub after-end : (p : Place) (xs : List ℕ) (i : ℕ) → length xs ≤ i → placeAfter p (drop i xs) ≡ p
 unfolding placeAfter
 after-end p xs i h = rw (drop-of-length-le xs h)
+
+-- the check of what is left, by the next place
+pub text-step : (p q : Place) (xs : List ℕ) (i : ℕ) → i < length xs → q ≡ next p (getD xs i 0) → textFrom q (drop (i + 1) xs) ≡ textFrom p (drop i xs)
+text-step p q xs i h e = ap (λ (r : Place). textFrom r (drop (i + 1) xs)) e ∙ sym (ap ends (after-step p xs i h))
+
+-- nothing is text once it has failed
+pub never : (xs : List ℕ) → textFrom Failed xs ≡ false
+unfolding placeAfter
+never [] = refl
+never (x ∷ xs) = never xs
+
+-- a byte below 80 is a form by itself
+pub lead-plain : (b : ℕ) → b < 0x80 → afterLead b ≡ Lead
+unfolding afterLead
+lead-plain b h = rw (inside 0x00 0x7F b (omega arith) (omega arith))
+
+pub plain-step : (xs : List ℕ) (i : ℕ) → i < length xs → getD xs i 0 < 0x80 → isTextOf (drop i xs) ≡ isTextOf (drop (i + 1) xs)
+plain-step xs i h k = sym (text-step Lead Lead xs i h (sym (lead-plain (getD xs i 0) k)))
+
+pub plain-part : (xs : List ℕ) (i e : ℕ) → i ≤ e → isTextOf (take (e - i) (drop i xs)) ≡ true → isTextOf (drop i xs) ≡ isTextOf (drop e xs)
+plain-part xs i e h t = ap isTextOf (part-begins xs i e h .splits) ∙ text-append (take (e - i) (drop i xs)) (drop e xs) t
+
+pub text-end : (xs : List ℕ) (i : ℕ) → length xs ≤ i → isTextOf (drop i xs) ≡ true
+text-end xs i h = ap ends (after-end Lead xs i h)
+
+pub not-fine : {A : Type 0} → false ≡ true → A
+not-fine e = absurd (let z : _≡_ {A = ℕ} 0 1 = cc in omega arith)

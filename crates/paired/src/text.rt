@@ -1,6 +1,9 @@
 // Whether bytes are text by RFC 3629.
 ghost use mathlib.Core.Path.{_≡_};
-ghost use Rattle.paired.specs.Text.{afterLead, afterFollower, next, isTextOf};
+ghost use Prim.Native.Nat.{_≤_};
+ghost use mathlib.Core.Bool.{true};
+ghost use lib.ListN.{length, drop};
+ghost use Rattle.paired.specs.Text.{afterLead, afterFollower, isTextOf};
 
 // What the next byte must be.
 enum Place {
@@ -75,24 +78,63 @@ fn after_follower(low: u8, high: u8, more: u8, b: u8) -> Place
     }
 }
 
-fn after(place: Place, b: u8) -> Place
-    ensures { λ r. ⌜ r ≡ next place b ⌝ }
+// Whether every byte of a block is below 80. Never left early, so that it vectorises.
+fn plain(block: &[u8]) -> bool
+    ensures { λ r. ⌜ (r ≡ true → isTextOf (now (block .entry)) ≡ true) ⌝ }
 {
-    match place {
-        Place::Lead => after_lead(b),
-        Place::Follower { low, high, more } => after_follower(low, high, more, b),
-        Place::Failed => Place::Failed,
+    let mut fine = true;
+    let mut i = 0;
+    while i < block.len() {
+        let b = block[i];
+        i += 1;
+        if b >= 0x80 {
+            fine = false;
+        }
     }
+    fine
+}
+
+// A place up to which every byte is below 80.
+fn plain_front(bytes: &[u8]) -> usize
+    ensures { λ r. ⌜ (r ≤ length (now (bytes .entry))) × (isTextOf (drop r (now (bytes .entry))) ≡ isTextOf (now (bytes .entry))) ⌝ }
+{
+    let mut i = 0;
+    while bytes.len() - i >= 8 {
+        if !plain(&bytes[i..i + 8]) {
+            return i;
+        }
+        i += 8;
+    }
+    while i < bytes.len() {
+        if bytes[i] >= 0x80 {
+            return i;
+        }
+        i += 1;
+    }
+    i
 }
 
 pub fn is_text(bytes: &[u8]) -> bool
     ensures { λ r. ⌜ r ≡ isTextOf (now (bytes .entry)) ⌝ }
 {
     let mut place = Place::Lead;
-    let mut i = 0;
+    let mut i = plain_front(bytes);
     while i < bytes.len() {
-        place = after(place, bytes[i]);
+        let b = bytes[i];
         i += 1;
+        match place {
+            Place::Lead => {
+                if b >= 0x80 {
+                    place = after_lead(b);
+                }
+            }
+            Place::Follower { low, high, more } => {
+                place = after_follower(low, high, more, b);
+            }
+            Place::Failed => {
+                return false;
+            }
+        }
     }
     match place {
         Place::Lead => true,

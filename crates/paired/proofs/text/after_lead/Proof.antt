@@ -1,18 +1,14 @@
 use Prim.Native.Nat.{ℕ, _≤_, _<_}
-use mathlib.Core.Path.{_≡_}
+use mathlib.Core.Path.{_≡_, sym}
 use native.Mathlib.Omega.{arith}
 use borrow.Author.Tests.{ne-eqb}
 use Rattle.paired.specs.Text.{afterLead}
 use Rattle.paired.specs.declared.text.Place.the-variants.{Lead, Follower, Failed}
-use Rattle.paired.proofs.LawsText.{inside, below, above}
+use Rattle.paired.proofs.LawsText.{inside, below, above, lead-plain}
 use Rattle.paired.proofs.text.after_lead.Statement.{statement}
 use Rattle.paired.proofs.text.after_lead.Tie as tie
 
 module _ (b : ℕ) where
-  one : b < 0x80 → Lead ≡ afterLead b
-  unfolding afterLead
-  one h = rw (inside 0x00 0x7F b (omega arith) (omega arith))
-
   two : 0xC2 ≤ b → b < 0xE0 → Follower 0x80 0xBF 0 ≡ afterLead b
   unfolding afterLead
   two l h = rw (above 0x00 0x7F b (omega arith), inside 0xC2 0xDF b (omega arith) (omega arith))
@@ -77,7 +73,7 @@ after-lead-spec =
     (λ c. rw (c .match .keys2))
     (λ c. rw (c .match .keys3))
     (λ c. rw (c .match .keys4))
-    (λ c. one _ (c .if1 .taken))
+    (λ c. sym (lead-plain _ (c .if1 .taken)))
     (λ c. two _ (c .before .if2 .left) (c .if3 .taken))
     returns-7
     (λ c. four _ (c .before .if4 .left) (c .if5 .taken) (c .before .before .before .before .before .match .rest .0 .1))
