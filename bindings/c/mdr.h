@@ -1,0 +1,207 @@
+/* The MDR frame log: frames, scanner, readings and the masked log.
+ *
+ * A slice is two arguments, a pointer and a length. No pointer may be null, also where its length is 0. What a call may write to must not
+ * overlap anything else that the call is lent. No call keeps a pointer, allocates, or has a state of its own, so calls on different buffers
+ * may run at the same time.
+ *
+ * Most calls return a status: 0 where the call accepts, else the number of the refusal (enum mdr_refusal). Every input is taken; a call that
+ * refuses says why.
+ *
+ * `values` takes the numbers of the answer, from the front on, as many as fit; entries behind them stay as they were. The comment of a call
+ * lists its numbers in brackets. A refusal writes the numbers that stand beside its name in enum mdr_refusal, or none.
+ *
+ * "or 256": an absent byte is 256. "or 2": an absent flag is 2; else 0 is no and 1 is yes.
+ */
+#ifndef MDR_H
+#define MDR_H
+
+#include <stdbool.h>
+#include <stddef.h>
+#include <stdint.h>
+
+#ifdef __cplusplus
+extern "C" {
+#endif
+
+enum mdr_refusal {
+    MDR_LIMIT_OUT_OF_RANGE = 1, /* below 9 or above 65536 */
+    MDR_STORE_TOO_SHORT = 2,    /* shorter than the limit and one byte more */
+    MDR_HELD_BEYOND_STORE = 3,  /* the count is above the store's length */
+    MDR_STORE_FULL = 4,         /* the piece does not fit behind the held bytes */
+    MDR_BAD_PLAN = 5,           /* not 512 bytes, or an entry above 7 */
+    MDR_WORK_TOO_SHORT = 6,     /* a line call's work area is shorter than the store */
+    MDR_LINE_TOO_LONG = 7,      /* the line does not fit the output */
+    MDR_TOO_SHORT = 8,          /* a frame of fewer than 9 bytes */
+    MDR_NO_START = 9,
+    MDR_NO_END = 10,
+    MDR_NO_ROOM = 11, /* unpack: work area shorter than the frame less 2; unescape: output shorter than the input */
+    MDR_TRAILING_SENTRY = 12,
+    MDR_BAD_ESCAPEE = 13, /* [the byte] */
+    MDR_BODY_TOO_SHORT = 14,
+    MDR_BAD_CHECKSUM = 15,     /* [declared, computed] */
+    MDR_LENGTH_MISMATCH = 16,  /* [declared, actual] */
+    MDR_PAYLOAD_TOO_LONG = 17, /* above 4294967295 bytes */
+    MDR_OUTPUT_TOO_SHORT = 18, /* escape, pack, ack */
+    MDR_OTHER_MESSAGE = 19,    /* not this decoder's message */
+    MDR_TOO_FEW_RECORDS = 20,
+    MDR_NO_SUCH_DEVICE = 21,
+    MDR_STEP_ZERO = 22
+};
+
+/* ---- frames ---- */
+
+/* The place of a type byte's name: 0 Data, 1 Ack, 2 DataMcNo1, 3 DataIcd, 4 DataEv, 5 DataMdr, 6 DataCommon, 7 DataMdrNo2, 8 Shot,
+ * 9 ShotMcNo1, 10 ShotIcd, 11 ShotEv, 12 ShotMdr, 13 ShotCommon, 14 ShotMdrNo2, 15 unknown. */
+uint8_t mdr_data_type(uint8_t byte);
+
+/* The sum of the bytes, wrapping at 256. */
+uint8_t mdr_checksum(const uint8_t *bytes, size_t bytes_len);
+
+/* [length written]. Writes to the front of `out`; bytes behind stay. Refused (18), `out` stays. */
+uint8_t mdr_escape(const uint8_t *src, size_t src_len, uint8_t *out, size_t out_len, uint64_t *values, size_t values_len);
+
+/* [length written]. Writes to the front of `out`; bytes behind stay. Refused by 11 `out` stays, by 12 or 13 all of it is zero. */
+uint8_t mdr_unescape(const uint8_t *src, size_t src_len, uint8_t *out, size_t out_len, uint64_t *values, size_t values_len);
+
+/* [length written]. `data_type` is the byte on the wire. Writes to the front of `out`; bytes behind stay. Refused (17, 18), `out` stays. */
+uint8_t mdr_pack(uint8_t data_type, uint8_t seq, const uint8_t *payload, size_t payload_len, uint8_t *out, size_t out_len, uint64_t *values,
+                 size_t values_len);
+
+/* [length written]. The acknowledgement of a frame that came with the sequence `seq`. Otherwise as mdr_pack. */
+uint8_t mdr_ack(uint8_t seq, uint8_t *out, size_t out_len, uint64_t *values, size_t values_len);
+
+/* [type byte, sequence, payload length]. Reads one whole frame, START and END included. The body comes to stand at the front of `work`, its
+ * payload from offset 6 on, and the rest of `work` is zero. Refused by 8 to 11 `work` stays, by 12 to 16 all of it is zero. */
+uint8_t mdr_unpack(const uint8_t *frame, size_t frame_len, uint8_t *work, size_t work_len, uint64_t *values, size_t values_len);
+
+/* ---- the scanner, its state as two numbers ----
+ *
+ * The caller keeps the limit (9 to 65536), the count of held bytes, and the store, which is longer than the limit. The held bytes are the
+ * first of the store. After each call the count is the one that the call told. Refused (1 to 4), nothing changes: keep the count. */
+
+/* [count], which is 0. Fills the store with zeros. */
+uint8_t mdr_open(size_t limit, uint8_t *store, size_t store_len, uint64_t *values, size_t values_len);
+
+/* [count now]. Puts the piece behind the held bytes. */
+uint8_t mdr_push(size_t limit, size_t count, uint8_t *store, size_t store_len, const uint8_t *piece, size_t piece_len, uint64_t *values,
+                 size_t values_len);
+
+/* [1, offset, length] of the first span among the held bytes, markers included, or [0] for none. */
+uint8_t mdr_find(size_t limit, size_t count, const uint8_t *store, size_t store_len, uint64_t *values, size_t values_len);
+
+/* [1 if a span went, else 0; count now]. The first span and what stands before it go; with no span, what cannot become one goes. What
+ * stays moves to the front, and every byte of the store behind it becomes zero. */
+uint8_t mdr_take(size_t limit, size_t count, uint8_t *store, size_t store_len, uint64_t *values, size_t values_len);
+
+/* 0 no START among the bytes; 1 a START and no END behind it, [its offset]; 2 both, [offset, length] of the first span. Takes any bytes, so
+ * that spans can be read where they stand, one behind the other, and then skipped together. */
+uint8_t mdr_seek(const uint8_t *bytes, size_t bytes_len, uint64_t *values, size_t values_len);
+
+/* [count now]. The first n held bytes go, no more than are held. What stays is left as by mdr_take. */
+uint8_t mdr_skip(size_t limit, size_t count, uint8_t *store, size_t store_len, size_t n, uint64_t *values, size_t values_len);
+
+/* ---- the scanner where the caller keeps the state in a struct ---- */
+
+struct mdr_scanner {
+    size_t limit;
+    size_t count;
+};
+
+/* A status. The count in `scanner` is brought up to date; refused, nothing changes. */
+uint8_t mdr_scanner_push(struct mdr_scanner *scanner, uint8_t *store, size_t store_len, const uint8_t *piece, size_t piece_len);
+
+/* 0 no span, 255 a span went, else the refusal. The count in `scanner` is brought up to date; refused, nothing changes. */
+uint8_t mdr_scanner_take(struct mdr_scanner *scanner, uint8_t *store, size_t store_len);
+
+/* ---- readings ----
+ *
+ * `payload` is a frame's payload: command, kind, body. The command is not looked at. Refused by 19 where it is another message. */
+
+/* [command, kind or 256, length]. Refused (19) where the payload is empty. */
+uint8_t mdr_message(const uint8_t *payload, size_t payload_len, uint64_t *values, size_t values_len);
+
+/* [level or 256, charging, threshold or 256] for each of main, left, right and case, so 12 numbers. An absent cell is [256, 256, 256].
+ * Charging: 0 no, 1 yes, 2 unknown, 3 charged, 256 and the byte added for any other. */
+uint8_t mdr_battery(const uint8_t *payload, size_t payload_len, uint64_t *values, size_t values_len);
+
+/* [mode, mode byte or 256, ambient level or 256, focus on voice or 2, settled, adaptive or 2, sensitivity or 256].
+ * Mode: 0 off, 1 noise cancelling, 2 ambient. */
+uint8_t mdr_noise(const uint8_t *payload, size_t payload_len, uint64_t *values, size_t values_len);
+
+/* [kind, count, then voice, min, max, step of each of two places], so 10 numbers. Places behind the count are 0. */
+uint8_t mdr_noise_capability(const uint8_t *payload, size_t payload_len, uint64_t *values, size_t values_len);
+
+/* [preset, count, bytes of the steps]. The steps stand in the payload from offset 4 on. */
+uint8_t mdr_equalizer(const uint8_t *payload, size_t payload_len, uint64_t *values, size_t values_len);
+
+/* [count] of paired devices. */
+uint8_t mdr_paired_devices(const uint8_t *payload, size_t payload_len, uint64_t *values, size_t values_len);
+
+/* [offset of the address, status, detail 0, detail 1, detail 2, offset of the name, length of the name, whether the name is UTF-8].
+ * Offsets are in the payload; an address has 17 bytes. Refused by 19, or by 21 where the index is not below the count. */
+uint8_t mdr_paired_device(const uint8_t *payload, size_t payload_len, size_t index, uint64_t *values, size_t values_len);
+
+/* Makes every byte of an address or a name `*`. A payload that mdr_paired_devices refuses stays. */
+void mdr_mask_paired(uint8_t *payload, size_t payload_len);
+
+/* [count] of supported functions. */
+uint8_t mdr_support_check(const uint8_t *payload, size_t payload_len, uint64_t *values, size_t values_len);
+
+struct mdr_support_function {
+    uint8_t code;
+    uint8_t priority;
+};
+
+/* The count of functions, or 256 and the refusal's number added (19, 20). Writes to the front of `records`; those behind stay. Refused,
+ * `records` stays. `table` is 1 for table One, anything else for table Two; it changes nothing in what is read. */
+uint16_t mdr_support_functions(uint8_t table, const uint8_t *payload, size_t payload_len, struct mdr_support_function *records,
+                               size_t records_len);
+
+/* [slot, enabled]. */
+uint8_t mdr_general_setting(const uint8_t *payload, size_t payload_len, uint64_t *values, size_t values_len);
+
+/* Whether the bytes are UTF-8 (RFC 3629). */
+bool mdr_is_text(const uint8_t *bytes, size_t bytes_len);
+
+/* Whether a headset whose levels go from min to max by step takes `level`: 0 no, 1 yes, 22 where the step is 0 and the level lies within. */
+uint8_t mdr_admits(uint8_t min, uint8_t max, uint8_t step, int32_t level);
+
+/* [1, min, max, step] of the levels that lie from low to high, or [0] for none. Never refuses: the status is 0. */
+uint8_t mdr_within(uint8_t min, uint8_t max, uint8_t step, uint8_t low, uint8_t high, uint64_t *values, size_t values_len);
+
+/* The shape of an equalizer with so many steps: 0 clear bass and five bands, 1 ten bands, 2 unknown. */
+uint8_t mdr_eq_shape(size_t count);
+
+/* What a step lies above the gain, in an equalizer with so many steps. */
+int32_t mdr_eq_bias(size_t count);
+
+/* A band's gain, from its step, in an equalizer with so many steps: -10 to 249. */
+int32_t mdr_gain(size_t count, uint8_t step);
+
+/* ---- the log ---- */
+
+#define MDR_PLAN_LEN 512
+
+/* Writes the house plan. A plan names the decoder of each command: the first 256 entries for type 0C, the last 256 for type 0E. */
+void mdr_house_plan(uint8_t plan[MDR_PLAN_LEN]);
+
+/* Whether a plan has 512 entries, none above 7. */
+bool mdr_plan_fine(const uint8_t *plan, size_t plan_len);
+
+/* [1, the line's length, count now], or [0, 0, count now] for no span. Writes the next span's line to the front of `out`, its newline
+ * included, and takes the span; with no span it does what mdr_take does and leaves `out`. All of `work`, which is no shorter than the
+ * store, is zero after both. Refused (1, 2, 3, 5, 6), nothing changes; refused by 7, `work` is zero and nothing else changes. */
+uint8_t mdr_line(size_t limit, size_t count, uint8_t *store, size_t store_len, const uint8_t *plan, size_t plan_len, uint8_t *work,
+                 size_t work_len, uint8_t *out, size_t out_len, uint64_t *values, size_t values_len);
+
+/* [the lines' length together, count now], told whatever the status is. Does what calls of mdr_line do, one after the other until one writes
+ * no line, each lent the output behind the lines before it; the store is moved once. 0: no span is left. 7: the next line has no room behind
+ * those written, and its span is kept. Otherwise (1, 2, 3, 5, 6) nothing changes. */
+uint8_t mdr_all_lines(size_t limit, size_t count, uint8_t *store, size_t store_len, const uint8_t *plan, size_t plan_len, uint8_t *work,
+                      size_t work_len, uint8_t *out, size_t out_len, uint64_t *values, size_t values_len);
+
+#ifdef __cplusplus
+}
+#endif
+
+#endif

@@ -1,0 +1,595 @@
+//! Safe calls of `libffi.a`, the verified MDR frame log. `bindings/c/mdr.h` says what each call leaves in the buffers that it is lent.
+
+pub mod sys;
+
+/// Why a call refuses, in the order of the refusal list.
+#[derive(Clone, Copy, Debug, PartialEq, Eq)]
+pub enum Refusal {
+    LimitOutOfRange,
+    StoreTooShort,
+    HeldBeyondStore,
+    StoreFull,
+    BadPlan,
+    WorkTooShort,
+    LineTooLong,
+    TooShort,
+    NoStart,
+    NoEnd,
+    NoRoom,
+    TrailingSentry,
+    BadEscapee(u8),
+    BodyTooShort,
+    BadChecksum { declared: u8, computed: u8 },
+    LengthMismatch { declared: usize, actual: usize },
+    PayloadTooLong,
+    OutputTooShort,
+    OtherMessage,
+    TooFewRecords,
+    NoSuchDevice,
+    StepZero,
+}
+
+impl Refusal {
+    fn of(status: u8, values: &[u64]) -> Refusal {
+        match status {
+            1 => Refusal::LimitOutOfRange,
+            2 => Refusal::StoreTooShort,
+            3 => Refusal::HeldBeyondStore,
+            4 => Refusal::StoreFull,
+            5 => Refusal::BadPlan,
+            6 => Refusal::WorkTooShort,
+            7 => Refusal::LineTooLong,
+            8 => Refusal::TooShort,
+            9 => Refusal::NoStart,
+            10 => Refusal::NoEnd,
+            11 => Refusal::NoRoom,
+            12 => Refusal::TrailingSentry,
+            13 => Refusal::BadEscapee(values[0] as u8),
+            14 => Refusal::BodyTooShort,
+            15 => Refusal::BadChecksum { declared: values[0] as u8, computed: values[1] as u8 },
+            16 => Refusal::LengthMismatch { declared: values[0] as usize, actual: values[1] as usize },
+            17 => Refusal::PayloadTooLong,
+            18 => Refusal::OutputTooShort,
+            19 => Refusal::OtherMessage,
+            20 => Refusal::TooFewRecords,
+            21 => Refusal::NoSuchDevice,
+            22 => Refusal::StepZero,
+            other => unreachable!("status {other}"),
+        }
+    }
+
+    /// The number in the refusal list.
+    pub fn number(self) -> u8 {
+        match self {
+            Refusal::LimitOutOfRange => 1,
+            Refusal::StoreTooShort => 2,
+            Refusal::HeldBeyondStore => 3,
+            Refusal::StoreFull => 4,
+            Refusal::BadPlan => 5,
+            Refusal::WorkTooShort => 6,
+            Refusal::LineTooLong => 7,
+            Refusal::TooShort => 8,
+            Refusal::NoStart => 9,
+            Refusal::NoEnd => 10,
+            Refusal::NoRoom => 11,
+            Refusal::TrailingSentry => 12,
+            Refusal::BadEscapee(_) => 13,
+            Refusal::BodyTooShort => 14,
+            Refusal::BadChecksum { .. } => 15,
+            Refusal::LengthMismatch { .. } => 16,
+            Refusal::PayloadTooLong => 17,
+            Refusal::OutputTooShort => 18,
+            Refusal::OtherMessage => 19,
+            Refusal::TooFewRecords => 20,
+            Refusal::NoSuchDevice => 21,
+            Refusal::StepZero => 22,
+        }
+    }
+}
+
+impl std::fmt::Display for Refusal {
+    fn fmt(&self, f: &mut std::fmt::Formatter<'_>) -> std::fmt::Result {
+        write!(f, "refused, {}: {:?}", self.number(), self)
+    }
+}
+
+impl std::error::Error for Refusal {}
+
+// The values of a call that accepts. Two at least, so that a refusal's values always fit.
+fn told<const N: usize>(call: impl FnOnce(*mut u64, usize) -> u8) -> Result<[u64; N], Refusal> {
+    const { assert!(N >= 2) };
+    let mut values = [0; N];
+    match call(values.as_mut_ptr(), N) {
+        0 => Ok(values),
+        status => Err(Refusal::of(status, &values)),
+    }
+}
+
+fn byte(n: u64) -> Option<u8> {
+    u8::try_from(n).ok()
+}
+
+fn flag(n: u64) -> Option<bool> {
+    match n {
+        0 => Some(false),
+        1 => Some(true),
+        _ => None,
+    }
+}
+
+/// The name of a frame's type byte.
+#[derive(Clone, Copy, Debug, PartialEq, Eq)]
+pub enum DataType {
+    Data,
+    Ack,
+    DataMcNo1,
+    DataIcd,
+    DataEv,
+    DataMdr,
+    DataCommon,
+    DataMdrNo2,
+    Shot,
+    ShotMcNo1,
+    ShotIcd,
+    ShotEv,
+    ShotMdr,
+    ShotCommon,
+    ShotMdrNo2,
+    Unknown(u8),
+}
+
+impl DataType {
+    pub fn from_wire(byte: u8) -> DataType {
+        // SAFETY: a number goes in and a number comes out.
+        match unsafe { sys::mdr_data_type(byte) } {
+            0 => DataType::Data,
+            1 => DataType::Ack,
+            2 => DataType::DataMcNo1,
+            3 => DataType::DataIcd,
+            4 => DataType::DataEv,
+            5 => DataType::DataMdr,
+            6 => DataType::DataCommon,
+            7 => DataType::DataMdrNo2,
+            8 => DataType::Shot,
+            9 => DataType::ShotMcNo1,
+            10 => DataType::ShotIcd,
+            11 => DataType::ShotEv,
+            12 => DataType::ShotMdr,
+            13 => DataType::ShotCommon,
+            14 => DataType::ShotMdrNo2,
+            _ => DataType::Unknown(byte),
+        }
+    }
+}
+
+// SAFETY, in every call below: each pointer and length are those of one slice or array, which is borrowed for the call, and the library
+// keeps none of them. A slice's pointer is never null.
+
+pub fn checksum(bytes: &[u8]) -> u8 {
+    unsafe { sys::mdr_checksum(bytes.as_ptr(), bytes.len()) }
+}
+
+/// How many bytes were written to the front of `out`.
+pub fn escape(src: &[u8], out: &mut [u8]) -> Result<usize, Refusal> {
+    let v: [u64; 2] = told(|v, n| unsafe { sys::mdr_escape(src.as_ptr(), src.len(), out.as_mut_ptr(), out.len(), v, n) })?;
+    Ok(v[0] as usize)
+}
+
+/// How many bytes were written to the front of `out`.
+pub fn unescape(src: &[u8], out: &mut [u8]) -> Result<usize, Refusal> {
+    let v: [u64; 2] = told(|v, n| unsafe { sys::mdr_unescape(src.as_ptr(), src.len(), out.as_mut_ptr(), out.len(), v, n) })?;
+    Ok(v[0] as usize)
+}
+
+/// How many bytes were written to the front of `out`. `data_type` is the byte on the wire.
+pub fn pack(data_type: u8, seq: u8, payload: &[u8], out: &mut [u8]) -> Result<usize, Refusal> {
+    let v: [u64; 2] = told(|v, n| unsafe {
+        sys::mdr_pack(data_type, seq, payload.as_ptr(), payload.len(), out.as_mut_ptr(), out.len(), v, n)
+    })?;
+    Ok(v[0] as usize)
+}
+
+/// The acknowledgement of a frame that came with the sequence `seq`: how many bytes were written to the front of `out`.
+pub fn ack(seq: u8, out: &mut [u8]) -> Result<usize, Refusal> {
+    let v: [u64; 2] = told(|v, n| unsafe { sys::mdr_ack(seq, out.as_mut_ptr(), out.len(), v, n) })?;
+    Ok(v[0] as usize)
+}
+
+/// What a frame carried.
+#[derive(Clone, Copy, Debug, PartialEq, Eq)]
+pub struct Unpacked<'a> {
+    /// the byte on the wire
+    pub data_type: u8,
+    pub seq: u8,
+    pub payload: &'a [u8],
+}
+
+/// Reads one whole frame; the payload is a part of `work`.
+pub fn unpack<'a>(frame: &[u8], work: &'a mut [u8]) -> Result<Unpacked<'a>, Refusal> {
+    let v: [u64; 3] = told(|v, n| unsafe { sys::mdr_unpack(frame.as_ptr(), frame.len(), work.as_mut_ptr(), work.len(), v, n) })?;
+    Ok(Unpacked { data_type: v[0] as u8, seq: v[1] as u8, payload: &work[6..6 + v[2] as usize] })
+}
+
+/// A span of the held bytes, markers included.
+#[derive(Clone, Copy, Debug, PartialEq, Eq)]
+pub struct Span {
+    pub at: usize,
+    pub len: usize,
+}
+
+/// The scanner's state. The caller lends each call the store, the same one as left by the call before.
+#[repr(C)]
+#[derive(Clone, Copy, Debug, PartialEq, Eq)]
+pub struct Scanner {
+    pub limit: usize,
+    pub count: usize,
+}
+
+impl Scanner {
+    /// Fills the store with zeros.
+    pub fn open(limit: usize, store: &mut [u8]) -> Result<Scanner, Refusal> {
+        let v: [u64; 2] = told(|v, n| unsafe { sys::mdr_open(limit, store.as_mut_ptr(), store.len(), v, n) })?;
+        Ok(Scanner { limit, count: v[0] as usize })
+    }
+
+    pub fn push(&mut self, store: &mut [u8], piece: &[u8]) -> Result<(), Refusal> {
+        let v: [u64; 2] = told(|v, n| unsafe {
+            sys::mdr_push(self.limit, self.count, store.as_mut_ptr(), store.len(), piece.as_ptr(), piece.len(), v, n)
+        })?;
+        self.count = v[0] as usize;
+        Ok(())
+    }
+
+    /// The first span among the held bytes.
+    pub fn find(&self, store: &[u8]) -> Result<Option<Span>, Refusal> {
+        let v: [u64; 3] = told(|v, n| unsafe { sys::mdr_find(self.limit, self.count, store.as_ptr(), store.len(), v, n) })?;
+        Ok((v[0] == 1).then_some(Span { at: v[1] as usize, len: v[2] as usize }))
+    }
+
+    /// Whether a span went.
+    pub fn take(&mut self, store: &mut [u8]) -> Result<bool, Refusal> {
+        let v: [u64; 2] = told(|v, n| unsafe { sys::mdr_take(self.limit, self.count, store.as_mut_ptr(), store.len(), v, n) })?;
+        self.count = v[1] as usize;
+        Ok(v[0] == 1)
+    }
+
+    /// The first `n` held bytes go, no more than are held.
+    pub fn skip(&mut self, store: &mut [u8], n: usize) -> Result<(), Refusal> {
+        let v: [u64; 2] = told(|v, len| unsafe { sys::mdr_skip(self.limit, self.count, store.as_mut_ptr(), store.len(), n, v, len) })?;
+        self.count = v[0] as usize;
+        Ok(())
+    }
+
+    /// `push`, by the call that changes the state in its place.
+    #[inline]
+    pub fn push_lent(&mut self, store: &mut [u8], piece: &[u8]) -> Result<(), Refusal> {
+        match unsafe { sys::mdr_scanner_push(self, store.as_mut_ptr(), store.len(), piece.as_ptr(), piece.len()) } {
+            0 => Ok(()),
+            status => Err(Refusal::of(status, &[])),
+        }
+    }
+
+    /// `take`, by the call that changes the state in its place.
+    #[inline]
+    pub fn take_lent(&mut self, store: &mut [u8]) -> Result<bool, Refusal> {
+        match unsafe { sys::mdr_scanner_take(self, store.as_mut_ptr(), store.len()) } {
+            0 => Ok(false),
+            255 => Ok(true),
+            status => Err(Refusal::of(status, &[])),
+        }
+    }
+
+    /// The length of the next span's line, written to the front of `out`, or none where no span is held.
+    pub fn line(&mut self, store: &mut [u8], plan: &[u8], work: &mut [u8], out: &mut [u8]) -> Result<Option<usize>, Refusal> {
+        let v: [u64; 3] = told(|v, n| unsafe {
+            sys::mdr_line(
+                self.limit,
+                self.count,
+                store.as_mut_ptr(),
+                store.len(),
+                plan.as_ptr(),
+                plan.len(),
+                work.as_mut_ptr(),
+                work.len(),
+                out.as_mut_ptr(),
+                out.len(),
+                v,
+                n,
+            )
+        })?;
+        self.count = v[2] as usize;
+        Ok((v[0] == 1).then_some(v[1] as usize))
+    }
+
+    /// The lines of all held spans, written to the front of `out`: their length together, and why no more were written, nothing where no
+    /// span is left.
+    pub fn all_lines(&mut self, store: &mut [u8], plan: &[u8], work: &mut [u8], out: &mut [u8]) -> (usize, Result<(), Refusal>) {
+        let mut v = [0; 2];
+        let status = unsafe {
+            sys::mdr_all_lines(
+                self.limit,
+                self.count,
+                store.as_mut_ptr(),
+                store.len(),
+                plan.as_ptr(),
+                plan.len(),
+                work.as_mut_ptr(),
+                work.len(),
+                out.as_mut_ptr(),
+                out.len(),
+                v.as_mut_ptr(),
+                v.len(),
+            )
+        };
+        self.count = v[1] as usize;
+        (v[0] as usize, if status == 0 { Ok(()) } else { Err(Refusal::of(status, &[])) })
+    }
+}
+
+/// The first span of these bytes.
+pub fn seek(bytes: &[u8]) -> Option<Span> {
+    let mut v = [0; 2];
+    let found = unsafe { sys::mdr_seek(bytes.as_ptr(), bytes.len(), v.as_mut_ptr(), v.len()) };
+    (found == 2).then_some(Span { at: v[0] as usize, len: v[1] as usize })
+}
+
+pub const PLAN_LEN: usize = 512;
+
+pub fn house_plan() -> [u8; PLAN_LEN] {
+    let mut plan = [0; PLAN_LEN];
+    unsafe { sys::mdr_house_plan(plan.as_mut_ptr()) };
+    plan
+}
+
+pub fn plan_fine(plan: &[u8]) -> bool {
+    unsafe { sys::mdr_plan_fine(plan.as_ptr(), plan.len()) }
+}
+
+#[derive(Clone, Copy, Debug, PartialEq, Eq)]
+pub struct Message {
+    pub command: u8,
+    pub kind: Option<u8>,
+    /// of the whole payload
+    pub len: usize,
+}
+
+pub fn message(payload: &[u8]) -> Result<Message, Refusal> {
+    let v: [u64; 3] = told(|v, n| unsafe { sys::mdr_message(payload.as_ptr(), payload.len(), v, n) })?;
+    Ok(Message { command: v[0] as u8, kind: byte(v[1]), len: v[2] as usize })
+}
+
+#[derive(Clone, Copy, Debug, PartialEq, Eq)]
+pub enum Charging {
+    No,
+    Yes,
+    Unknown,
+    Charged,
+    Other(u8),
+}
+
+#[derive(Clone, Copy, Debug, PartialEq, Eq)]
+pub struct Cell {
+    pub level: u8,
+    pub charging: Charging,
+    pub threshold: Option<u8>,
+}
+
+#[derive(Clone, Copy, Debug, PartialEq, Eq)]
+pub struct Battery {
+    pub main: Option<Cell>,
+    pub left: Option<Cell>,
+    pub right: Option<Cell>,
+    pub case: Option<Cell>,
+}
+
+fn cell(v: &[u64]) -> Option<Cell> {
+    let charging = match v[1] {
+        0 => Charging::No,
+        1 => Charging::Yes,
+        2 => Charging::Unknown,
+        3 => Charging::Charged,
+        other => Charging::Other((other - 256) as u8),
+    };
+    Some(Cell { level: byte(v[0])?, charging, threshold: byte(v[2]) })
+}
+
+pub fn battery(payload: &[u8]) -> Result<Battery, Refusal> {
+    let v: [u64; 12] = told(|v, n| unsafe { sys::mdr_battery(payload.as_ptr(), payload.len(), v, n) })?;
+    Ok(Battery { main: cell(&v[0..3]), left: cell(&v[3..6]), right: cell(&v[6..9]), case: cell(&v[9..12]) })
+}
+
+#[derive(Clone, Copy, Debug, PartialEq, Eq)]
+pub enum NoiseMode {
+    Off,
+    Anc,
+    Ambient,
+}
+
+#[derive(Clone, Copy, Debug, PartialEq, Eq)]
+pub struct Noise {
+    pub mode: NoiseMode,
+    pub mode_byte: Option<u8>,
+    pub ambient_level: Option<u8>,
+    pub focus_on_voice: Option<bool>,
+    pub settled: bool,
+    pub adaptive: Option<bool>,
+    pub adaptive_sensitivity: Option<u8>,
+}
+
+pub fn noise(payload: &[u8]) -> Result<Noise, Refusal> {
+    let v: [u64; 7] = told(|v, n| unsafe { sys::mdr_noise(payload.as_ptr(), payload.len(), v, n) })?;
+    let mode = match v[0] {
+        0 => NoiseMode::Off,
+        1 => NoiseMode::Anc,
+        _ => NoiseMode::Ambient,
+    };
+    Ok(Noise {
+        mode,
+        mode_byte: byte(v[1]),
+        ambient_level: byte(v[2]),
+        focus_on_voice: flag(v[3]),
+        settled: v[4] == 1,
+        adaptive: flag(v[5]),
+        adaptive_sensitivity: byte(v[6]),
+    })
+}
+
+/// The levels from `min` to `max` by `step`.
+#[derive(Clone, Copy, Debug, PartialEq, Eq)]
+pub struct AmbientRange {
+    pub min: u8,
+    pub max: u8,
+    pub step: u8,
+}
+
+impl AmbientRange {
+    /// Whether a headset with this range takes `level`.
+    pub fn admits(self, level: i32) -> Result<bool, Refusal> {
+        match unsafe { sys::mdr_admits(self.min, self.max, self.step, level) } {
+            0 => Ok(false),
+            1 => Ok(true),
+            status => Err(Refusal::of(status, &[])),
+        }
+    }
+
+    /// The levels that lie from `low` to `high`, on the same steps.
+    pub fn within(self, low: u8, high: u8) -> Option<AmbientRange> {
+        let mut v = [0; 4];
+        unsafe { sys::mdr_within(self.min, self.max, self.step, low, high, v.as_mut_ptr(), v.len()) };
+        (v[0] == 1).then_some(AmbientRange { min: v[1] as u8, max: v[2] as u8, step: v[3] as u8 })
+    }
+}
+
+#[derive(Clone, Copy, Debug, PartialEq, Eq)]
+pub struct Capability {
+    pub kind: u8,
+    /// with the voice value; one or two
+    pub ranges: [Option<(bool, AmbientRange)>; 2],
+}
+
+pub fn noise_capability(payload: &[u8]) -> Result<Capability, Refusal> {
+    let v: [u64; 10] = told(|v, n| unsafe { sys::mdr_noise_capability(payload.as_ptr(), payload.len(), v, n) })?;
+    let range = |i: usize| {
+        let r = &v[2 + 4 * i..6 + 4 * i];
+        ((i as u64) < v[1]).then_some((r[0] == 1, AmbientRange { min: r[1] as u8, max: r[2] as u8, step: r[3] as u8 }))
+    };
+    Ok(Capability { kind: v[0] as u8, ranges: [range(0), range(1)] })
+}
+
+#[derive(Clone, Copy, Debug, PartialEq, Eq)]
+pub struct Equalizer<'a> {
+    pub preset: u8,
+    pub steps: &'a [u8],
+}
+
+pub fn equalizer(payload: &[u8]) -> Result<Equalizer<'_>, Refusal> {
+    let v: [u64; 3] = told(|v, n| unsafe { sys::mdr_equalizer(payload.as_ptr(), payload.len(), v, n) })?;
+    Ok(Equalizer { preset: v[0] as u8, steps: &payload[4..4 + v[2] as usize] })
+}
+
+#[derive(Clone, Copy, Debug, PartialEq, Eq)]
+pub enum EqShape {
+    ClearBassAndFive,
+    TenBands,
+    Unknown,
+}
+
+/// The shape of an equalizer with so many steps.
+pub fn eq_shape(count: usize) -> EqShape {
+    match unsafe { sys::mdr_eq_shape(count) } {
+        0 => EqShape::ClearBassAndFive,
+        1 => EqShape::TenBands,
+        _ => EqShape::Unknown,
+    }
+}
+
+/// What a step lies above the gain, in an equalizer with so many steps.
+pub fn eq_bias(count: usize) -> i32 {
+    unsafe { sys::mdr_eq_bias(count) }
+}
+
+/// A band's gain, from its step, in an equalizer with so many steps.
+pub fn gain(count: usize, step: u8) -> i32 {
+    unsafe { sys::mdr_gain(count, step) }
+}
+
+/// How many devices are paired.
+pub fn paired_devices(payload: &[u8]) -> Result<usize, Refusal> {
+    let v: [u64; 2] = told(|v, n| unsafe { sys::mdr_paired_devices(payload.as_ptr(), payload.len(), v, n) })?;
+    Ok(v[0] as usize)
+}
+
+#[derive(Clone, Copy, Debug, PartialEq, Eq)]
+pub struct PairedDevice<'a> {
+    pub address: &'a [u8],
+    pub status: u8,
+    pub details: [u8; 3],
+    pub name: &'a [u8],
+    /// whether the name is UTF-8
+    pub text: bool,
+}
+
+pub fn paired_device(payload: &[u8], index: usize) -> Result<PairedDevice<'_>, Refusal> {
+    let v: [u64; 8] = told(|v, n| unsafe { sys::mdr_paired_device(payload.as_ptr(), payload.len(), index, v, n) })?;
+    let part = |at: u64, len: u64| &payload[at as usize..(at + len) as usize];
+    Ok(PairedDevice {
+        address: part(v[0], 17),
+        status: v[1] as u8,
+        details: [v[2] as u8, v[3] as u8, v[4] as u8],
+        name: part(v[5], v[6]),
+        text: v[7] == 1,
+    })
+}
+
+/// Makes every byte of an address or a name `*`; a payload that is no list of paired devices stays.
+pub fn mask_paired(payload: &mut [u8]) {
+    unsafe { sys::mdr_mask_paired(payload.as_mut_ptr(), payload.len()) }
+}
+
+/// How many functions the list has.
+pub fn support_check(payload: &[u8]) -> Result<usize, Refusal> {
+    let v: [u64; 2] = told(|v, n| unsafe { sys::mdr_support_check(payload.as_ptr(), payload.len(), v, n) })?;
+    Ok(v[0] as usize)
+}
+
+#[repr(C)]
+#[derive(Clone, Copy, Debug, Default, PartialEq, Eq)]
+pub struct SupportFunction {
+    pub code: u8,
+    pub priority: u8,
+}
+
+#[derive(Clone, Copy, Debug, PartialEq, Eq)]
+pub enum Table {
+    One,
+    Two,
+}
+
+/// How many functions were written to the front of `records`.
+#[inline]
+pub fn support_functions(table: Table, payload: &[u8], records: &mut [SupportFunction]) -> Result<usize, Refusal> {
+    let table = match table {
+        Table::One => 1,
+        Table::Two => 2,
+    };
+    match unsafe { sys::mdr_support_functions(table, payload.as_ptr(), payload.len(), records.as_mut_ptr(), records.len()) } {
+        count @ 0..=255 => Ok(count as usize),
+        refused => Err(Refusal::of((refused - 256) as u8, &[])),
+    }
+}
+
+#[derive(Clone, Copy, Debug, PartialEq, Eq)]
+pub struct GeneralSetting {
+    pub slot: u8,
+    pub enabled: bool,
+}
+
+pub fn general_setting(payload: &[u8]) -> Result<GeneralSetting, Refusal> {
+    let v: [u64; 2] = told(|v, n| unsafe { sys::mdr_general_setting(payload.as_ptr(), payload.len(), v, n) })?;
+    Ok(GeneralSetting { slot: v[0] as u8, enabled: v[1] == 1 })
+}
+
+/// Whether the bytes are UTF-8 (RFC 3629).
+pub fn is_text(bytes: &[u8]) -> bool {
+    unsafe { sys::mdr_is_text(bytes.as_ptr(), bytes.len()) }
+}

@@ -1,0 +1,167 @@
+//! Each wrapper once or more, on cases whose answers document 01 or the wire format gives.
+
+use mdr::*;
+
+const DEVICES: &[u8] = b"\x37\x02\x01AA:BB:CC:DD:EE:FF\x01\x00\x07\x09\x02Al\x00";
+
+#[test]
+fn frames() {
+    assert_eq!(DataType::from_wire(0x0E), DataType::DataMdrNo2);
+    assert_eq!(DataType::from_wire(0x1E), DataType::ShotMdrNo2);
+    assert_eq!(DataType::from_wire(0x77), DataType::Unknown(0x77));
+    assert_eq!(checksum(&[]), 0);
+    assert_eq!(checksum(&[0xFF, 0x02]), 1);
+
+    let mut out = [0xEE; 16];
+    assert_eq!(ack(0xC5, &mut out), Ok(11));
+    assert_eq!(out[..12], [0x3E, 0x01, 0x3D, 0x2C, 0, 0, 0, 0, 0x3D, 0x2D, 0x3C, 0xEE]);
+    assert_eq!(ack(0xC5, &mut out[..10]), Err(Refusal::OutputTooShort));
+
+    let mut out = [0xEE; 4];
+    assert_eq!(escape(&[0x3C, 0x41], &mut out), Ok(3));
+    assert_eq!(out, [0x3D, 0x2C, 0x41, 0xEE]);
+    let mut plain = [0xEE; 4];
+    assert_eq!(unescape(&out[..3], &mut plain), Ok(2));
+    assert_eq!(plain, [0x3C, 0x41, 0xEE, 0xEE]);
+    assert_eq!(unescape(&[0x3D, 0x41], &mut plain), Err(Refusal::BadEscapee(0x41)));
+    assert_eq!(plain, [0; 4]);
+
+    let mut frame = [0; 32];
+    let len = pack(0x0C, 1, &[0x23, 0x3E], &mut frame).unwrap();
+    let mut work = [0xEE; 32];
+    assert_eq!(unpack(&frame[..len], &mut work), Ok(Unpacked { data_type: 0x0C, seq: 1, payload: &[0x23, 0x3E] }));
+    assert_eq!(unpack(&[0x3E, 1, 1, 0, 0, 0, 1, 2, 0x3C], &mut work), Err(Refusal::BadChecksum { declared: 2, computed: 3 }));
+    assert_eq!(unpack(&[0x3E, 1, 1, 0, 0, 0, 1, 3, 0x3C], &mut work), Err(Refusal::LengthMismatch { declared: 1, actual: 0 }));
+    assert_eq!(unpack(&[], &mut work).unwrap_err().number(), 8);
+}
+
+#[test]
+fn scanner() {
+    let mut store = [0xEE; 16];
+    assert_eq!(Scanner::open(8, &mut store), Err(Refusal::LimitOutOfRange));
+    assert_eq!(store, [0xEE; 16]);
+    let mut s = Scanner::open(9, &mut store).unwrap();
+    assert_eq!((s.count, store), (0, [0; 16]));
+    s.push(&mut store, &[0x00, 0x3E, 0x41]).unwrap();
+    assert_eq!(s.find(&store), Ok(None));
+    s.push(&mut store, &[0x3C, 0x42]).unwrap();
+    assert_eq!(s.find(&store), Ok(Some(Span { at: 1, len: 3 })));
+    assert_eq!(s.take(&mut store), Ok(true));
+    assert_eq!((s.count, store[0], store[1]), (1, 0x42, 0));
+    assert_eq!(s.take(&mut store), Ok(false));
+    assert_eq!(s.count, 0);
+    assert_eq!(s.push(&mut store, &[0; 17]), Err(Refusal::StoreFull));
+}
+
+#[test]
+fn lines() {
+    let plan = house_plan();
+    assert!(plan_fine(&plan));
+    assert!(!plan_fine(&plan[..511]));
+    let (mut store, mut work, mut out) = ([0; 64], [0xEE; 64], [0xEE; 128]);
+    let mut s = Scanner::open(60, &mut store).unwrap();
+    s.push(&mut store, &[0x3E, 0x3C]).unwrap();
+    assert_eq!(s.line(&mut store, &plan, &mut work[..63], &mut out), Err(Refusal::WorkTooShort));
+    assert_eq!(s.line(&mut store, &plan, &mut work, &mut out[..4]), Err(Refusal::LineTooLong));
+    assert_eq!((s.count, work), (2, [0; 64]));
+    assert_eq!(s.line(&mut store, &plan, &mut work, &mut out), Ok(Some(5)));
+    assert_eq!((s.count, &out[..6]), (0, &b"R 08\n\xEE"[..]));
+    assert_eq!(s.line(&mut store, &plan, &mut work, &mut out), Ok(None));
+}
+
+#[test]
+fn fixed_readings() {
+    assert_eq!(message(&[0x23]), Ok(Message { command: 0x23, kind: None, len: 1 }));
+    assert_eq!(message(&[0x23, 0x05, 0x00]), Ok(Message { command: 0x23, kind: Some(5), len: 3 }));
+    assert_eq!(message(&[]), Err(Refusal::OtherMessage));
+
+    let main = Some(Cell { level: 80, charging: Charging::Yes, threshold: None });
+    assert_eq!(battery(&[0x23, 0x00, 0x50, 0x01]), Ok(Battery { main, left: None, right: None, case: None }));
+    let b = battery(&[0x23, 0x09, 1, 0, 2, 7, 3, 4]).unwrap();
+    assert_eq!(b.left, Some(Cell { level: 1, charging: Charging::No, threshold: Some(3) }));
+    assert_eq!(b.right, Some(Cell { level: 2, charging: Charging::Other(7), threshold: Some(4) }));
+    assert_eq!((b.main, b.case), (None, None));
+
+    let n = noise(&[0x67, 0x17, 0x01, 0x00, 0x00, 0x01, 0x05]).unwrap();
+    assert_eq!((n.mode, n.mode_byte, n.ambient_level), (NoiseMode::Off, Some(0), Some(5)));
+    assert_eq!((n.focus_on_voice, n.settled, n.adaptive, n.adaptive_sensitivity), (Some(true), true, None, None));
+
+    assert_eq!(general_setting(&[0xD7, 0xD1, 0x00, 0x00]), Ok(GeneralSetting { slot: 0xD1, enabled: true }));
+    assert_eq!(general_setting(&[0xD7, 0xD1, 0x00, 0x01]), Ok(GeneralSetting { slot: 0xD1, enabled: false }));
+}
+
+#[test]
+fn ranges() {
+    let a = AmbientRange { min: 0, max: 20, step: 5 };
+    let b = AmbientRange { min: 1, max: 3, step: 1 };
+    let c = Capability { kind: 0x19, ranges: [Some((true, a)), Some((false, b))] };
+    assert_eq!(noise_capability(&[0x61, 0x19, 2, 1, 0, 20, 5, 0, 1, 3, 1]), Ok(c));
+    assert_eq!(noise_capability(&[0x61, 0x19, 1, 1, 0, 20, 5]).unwrap().ranges, [Some((true, a)), None]);
+    assert_eq!((a.admits(10), a.admits(11), a.admits(-1)), (Ok(true), Ok(false), Ok(false)));
+    assert_eq!(AmbientRange { min: 0, max: 9, step: 0 }.admits(3), Err(Refusal::StepZero));
+    assert_eq!(a.within(3, 12), Some(AmbientRange { min: 5, max: 10, step: 5 }));
+    assert_eq!(a.within(21, 30), None);
+}
+
+#[test]
+fn lists() {
+    assert_eq!(equalizer(&[0x57, 0x00, 0xA0, 3, 7, 8, 9]), Ok(Equalizer { preset: 0xA0, steps: &[7, 8, 9] }));
+    assert_eq!((eq_shape(6), eq_shape(10), eq_shape(3)), (EqShape::ClearBassAndFive, EqShape::TenBands, EqShape::Unknown));
+    assert_eq!((eq_bias(10), eq_bias(6)), (6, 10));
+    assert_eq!((gain(6, 0), gain(10, 255)), (-10, 249));
+    assert_eq!(support_check(&[0x07, 0x00, 1, 0x22, 0x01]), Ok(1));
+    assert_eq!(support_check(&[0x07, 0x00, 2, 0x22, 0x01]), Err(Refusal::OtherMessage));
+}
+
+#[test]
+fn paired() {
+    assert_eq!(paired_devices(DEVICES), Ok(1));
+    let device = PairedDevice { address: b"AA:BB:CC:DD:EE:FF", status: 1, details: [0, 7, 9], name: b"Al", text: true };
+    assert_eq!(paired_device(DEVICES, 0), Ok(device));
+    assert_eq!(paired_device(DEVICES, 1), Err(Refusal::NoSuchDevice));
+    let mut masked = DEVICES.to_vec();
+    mask_paired(&mut masked);
+    assert_eq!(masked, b"\x37\x02\x01*****************\x01\x00\x07\x09\x02**\x00");
+    assert!(is_text("é".as_bytes()));
+    assert!(!is_text(&[0xC0, 0x80]));
+}
+
+#[test]
+fn lent() {
+    let mut store = [0; 16];
+    let mut s = Scanner::open(9, &mut store).unwrap();
+    assert_eq!(s.push_lent(&mut store, &[0x00, 0x3E, 0x3C, 0x42]), Ok(()));
+    assert_eq!(s.push_lent(&mut store, &[0; 13]), Err(Refusal::StoreFull));
+    assert_eq!(s.take_lent(&mut store), Ok(true));
+    assert_eq!((s.count, store[0], store[1]), (1, 0x42, 0));
+    assert_eq!(s.take_lent(&mut store), Ok(false));
+    assert_eq!(Scanner { limit: 8, count: 0 }.take_lent(&mut store), Err(Refusal::LimitOutOfRange));
+
+    let rest = SupportFunction { code: 9, priority: 9 };
+    let mut records = [rest; 2];
+    assert_eq!(support_functions(Table::Two, &[0x07, 0x00, 1, 0x22, 0x01], &mut records), Ok(1));
+    assert_eq!(records, [SupportFunction { code: 0x22, priority: 0x01 }, rest]);
+    assert_eq!(support_functions(Table::One, &[0x07, 0x00, 1, 0x22, 0x01], &mut []), Err(Refusal::TooFewRecords));
+}
+
+#[test]
+fn many_at_once() {
+    let two = [0x00, 0x3E, 0x3C, 0x3E, 0x41, 0x3C, 0x3E];
+    assert_eq!(seek(&two), Some(Span { at: 1, len: 2 }));
+    assert_eq!(seek(&two[3..]), Some(Span { at: 0, len: 3 }));
+    assert_eq!(seek(&two[6..]), None);
+
+    let mut store = [0; 16];
+    let mut s = Scanner::open(9, &mut store).unwrap();
+    s.push(&mut store, &two).unwrap();
+    let (mut work, mut out) = ([0xEE; 16], [0xEE; 12]);
+    assert_eq!(s.all_lines(&mut store, &house_plan(), &mut work, &mut out), (10, Ok(())));
+    assert_eq!(&out, b"R 08\nR 08\n\xEE\xEE");
+    assert_eq!((s.count, store[0], work), (1, 0x3E, [0; 16]));
+
+    s.push(&mut store, &two[4..]).unwrap();
+    assert_eq!(s.all_lines(&mut store, &house_plan(), &mut work, &mut []), (0, Err(Refusal::LineTooLong)));
+    assert_eq!(s.count, 4);
+    s.skip(&mut store, 3).unwrap();
+    assert_eq!((s.count, store[0], store[1]), (1, 0x3E, 0));
+}

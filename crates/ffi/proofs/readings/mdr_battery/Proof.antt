@@ -1,0 +1,32 @@
+use Prim.Native.Nat.{ℕ, _-_}
+use mathlib.Core.Path.{ap, sym, _∙_}
+use mathlib.Core.List.{List}
+use borrow.Author.Needs.{needs}
+use Rattle.ffi.specs.Told.{told}
+use Rattle.ffi.specs.Numbers.{batteryNumbers}
+use Rattle.ffi.proofs.LawsTold.{taken, turned}
+use Rattle.payload.specs.Battery.{batteryTold}
+use Rattle.ffi.proofs.readings.mdr_battery.Statement.{statement}
+use Rattle.ffi.proofs.readings.mdr_battery.Tie as tie
+
+returns : tie.Need-returns
+returns c = taken batteryNumbers (c .before .before .before .before .before .before .before .before .before .before .before .before .args .values .now) (sym (ap batteryTold (c .before .before .before .before .before .before .before .report .given .1)) ∙ c .before .before .before .before .before .before .before .before .before .decode-battery .ensures) (c .before .before .tell .ensures ∙ ap (λ (xs : List ℕ). told xs (c .before .before .before .before .before .before .before .before .before .before .before .before .args .values .now)) (c .before .before .before .before .before .battery .ensures))
+
+returns-2 : tie.Need-returns-2
+returns-2 c = turned batteryNumbers (c .before .before .before .before .before .before .before .before .before .before .args .values .now) (c .before .before .before .before .before .r .given .0 .0) (sym (ap batteryTold (c .before .before .before .before .before .r .given .1)) ∙ c .before .before .before .before .before .before .before .decode-battery .ensures) (c .before .before .refuse .ensures)
+
+pub mdr-battery-spec : {M : Type 1} → statement M
+mdr-battery-spec =
+    tie.close
+    (tie.spec
+    (λ c κs. search needs)
+    (λ c. search needs)
+    (λ c κs. search needs)
+    (λ c. search needs)
+    (λ c κs. search needs)
+    (λ c. search needs)
+    (λ c κs. search needs)
+    (λ c. search needs)
+    returns
+    (λ c. search needs)
+    returns-2)

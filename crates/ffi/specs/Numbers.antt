@@ -1,0 +1,182 @@
+-- The numbers that the exported calls tell, for each accepted value.
+use Prim.Native.Nat.{ℕ, _+_}
+use mathlib.Core.Bool.{Bool, true, false}
+use mathlib.Core.List.{List, [], _∷_, _++_}
+use mathlib.Core.Option.{Option, none, some}
+use lib.ListN.{getD}
+use Rattle.frame.specs.Outcome.{Outcome, accepted, refused}
+use Rattle.frame.specs.DataType.{toWire}
+use Rattle.frame.specs.Framing.{Header}
+use Rattle.frame.specs.declared.data_type.DataType.{DataType}
+use Rattle.frame.specs.declared.data_type.DataType.the-variants as D
+use Rattle.scanner.specs.Search.{Spot}
+use Rattle.scanner.specs.declared.search.Sight.{Sight}
+use Rattle.scanner.specs.declared.search.Sight.the-variants.{NoStart, NoEnd, Both}
+use Rattle.payload.specs.declared.message.Message.{Message}
+use Rattle.payload.specs.declared.message.OptionByte.{OptionByte}
+use Rattle.payload.specs.declared.message.OptionByte.the-variants.{Byte, NoByte}
+use Rattle.payload.specs.declared.battery.Charging.{Charging}
+use Rattle.payload.specs.declared.battery.Charging.the-variants.{No, Yes, Unknown, Charged, Other}
+use Rattle.payload.specs.declared.battery.OptionCell.{OptionCell}
+use Rattle.payload.specs.declared.battery.OptionCell.the-variants.{Present, Absent}
+use Rattle.payload.specs.declared.battery.BatteryReport.{BatteryReport}
+use Rattle.payload.specs.declared.noise.NoiseMode.{NoiseMode}
+use Rattle.payload.specs.declared.noise.NoiseMode.the-variants.{Off, Anc, Ambient}
+use Rattle.payload.specs.declared.noise.OptionFlag.{OptionFlag}
+use Rattle.payload.specs.declared.noise.OptionFlag.the-variants.{Flag, NoFlag}
+use Rattle.payload.specs.declared.noise.NoiseReport.{NoiseReport}
+use Rattle.payload.specs.declared.setting.GeneralSettingParam.{GeneralSettingParam}
+use Rattle.paired.specs.declared.paired.PairedDevice.{PairedDevice}
+use Rattle.capability.specs.Range.{Some}
+use Rattle.capability.specs.Range as Range
+use Rattle.capability.specs.Capability.{Capability, held, blank}
+use Rattle.capability.specs.declared.range.AmbientRange.{AmbientRange}
+use Rattle.capability.specs.declared.capability.CapabilityReport.{CapabilityReport}
+use Rattle.lists.specs.Equalizer.{EqReport}
+use Rattle.log.specs.AllLines.{LinesEffect}
+use Rattle.lists.specs.declared.equalizer.EqShape.{EqShape}
+use Rattle.lists.specs.declared.equalizer.EqShape.the-variants as E
+
+abbrev pub bit : Bool → ℕ
+bit false = 0
+bit true = 1
+
+-- an absent byte is 256, an absent flag 2
+abbrev pub byteOr256 : OptionByte → ℕ
+byteOr256 (Byte b) = b
+byteOr256 NoByte = 256
+
+abbrev pub flagOr2 : OptionFlag → ℕ
+flagOr2 (Flag on) = bit on
+flagOr2 NoFlag = 2
+
+-- the place of a type's name in the list
+abbrev pub placeOf : DataType → ℕ
+placeOf D.Data = 0
+placeOf D.Ack = 1
+placeOf D.DataMcNo1 = 2
+placeOf D.DataIcd = 3
+placeOf D.DataEv = 4
+placeOf D.DataMdr = 5
+placeOf D.DataCommon = 6
+placeOf D.DataMdrNo2 = 7
+placeOf D.Shot = 8
+placeOf D.ShotMcNo1 = 9
+placeOf D.ShotIcd = 10
+placeOf D.ShotEv = 11
+placeOf D.ShotMdr = 12
+placeOf D.ShotCommon = 13
+placeOf D.ShotMdrNo2 = 14
+placeOf (D.Unknown b) = 15
+
+-- the wire byte of the type, the sequence, the payload's length
+abbrev pub headerNumbers : Header → List ℕ
+headerNumbers h = toWire (h .kind) ∷ h .seq ∷ h .len ∷ []
+
+-- 1, offset and length of a span; 0 for none
+abbrev pub spotNumbers : Option Spot → List ℕ
+spotNumbers (some spot) = 1 ∷ spot .at ∷ spot .len ∷ []
+spotNumbers none = 0 ∷ []
+
+-- 0 no START, 1 a START and no END, 2 both; then where the START stands, and how long the span is
+abbrev pub sightNumber : Sight → ℕ
+sightNumber NoStart = 0
+sightNumber (NoEnd at) = 1
+sightNumber (Both at len) = 2
+
+abbrev pub sightNumbers : Sight → List ℕ
+sightNumbers NoStart = []
+sightNumbers (NoEnd at) = at ∷ []
+sightNumbers (Both at len) = at ∷ len ∷ []
+
+-- whether a span went, and how many bytes are held now
+abbrev pub takeNumbers : (held : ℕ) → Bool → List ℕ
+takeNumbers held span = bit span ∷ held ∷ []
+
+-- 1 and the line's length, or 0 and 0 for no span; then how many bytes are held now
+abbrev pub lineNumbers : (held : ℕ) → Option ℕ → List ℕ
+lineNumbers held (some len) = 1 ∷ len ∷ held ∷ []
+lineNumbers held none = 0 ∷ 0 ∷ held ∷ []
+
+-- how long the lines are together, and how many bytes are held now; told whatever the answer is
+abbrev pub linesNumbers : LinesEffect → List ℕ
+linesNumbers e = e .ready ∷ e .scanner .count ∷ []
+
+-- command, kind, length
+abbrev pub messageNumbers : Message → List ℕ
+messageNumbers m = m .command ∷ byteOr256 (m .kind) ∷ m .len ∷ []
+
+-- 256 and the byte for another one
+abbrev pub chargingNumber : Charging → ℕ
+chargingNumber No = 0
+chargingNumber Yes = 1
+chargingNumber Unknown = 2
+chargingNumber Charged = 3
+chargingNumber (Other b) = 256 + b
+
+-- level, charging, threshold
+abbrev pub cellNumbers : OptionCell → List ℕ
+cellNumbers (Present c) = c .level ∷ chargingNumber (c .charging) ∷ byteOr256 (c .threshold) ∷ []
+cellNumbers Absent = 256 ∷ 256 ∷ 256 ∷ []
+
+abbrev pub batteryNumbers : BatteryReport → List ℕ
+batteryNumbers b = cellNumbers (b .main) ++ cellNumbers (b .left) ++ cellNumbers (b .right) ++ cellNumbers (b .case)
+
+abbrev pub modeNumber : NoiseMode → ℕ
+modeNumber Off = 0
+modeNumber Anc = 1
+modeNumber Ambient = 2
+
+-- mode, mode byte, ambient level, focus on voice, settled, adaptive, sensitivity
+abbrev pub noiseNumbers : NoiseReport → List ℕ
+noiseNumbers n =
+    modeNumber (n .mode)
+    ∷ byteOr256 (n .«mode_byte»)
+    ∷ byteOr256 (n .«ambient_level»)
+    ∷ flagOr2 (n .«focus_on_voice»)
+    ∷ bit (n .settled)
+    ∷ flagOr2 (n .adaptive)
+    ∷ byteOr256 (n .«adaptive_sensitivity»)
+    ∷ []
+
+-- voice, min, max, step
+abbrev pub rangeNumbers : AmbientRange → List ℕ
+rangeNumbers r = bit (r .voice) ∷ r .min ∷ r .max ∷ r .step ∷ []
+
+-- kind, count, and the two places of the array
+abbrev pub reportNumbers : (kind : ℕ) → CapabilityReport → List ℕ
+reportNumbers kind r = kind ∷ r .count ∷ rangeNumbers (getD (r .ranges) 0 blank) ++ rangeNumbers (getD (r .ranges) 1 blank)
+
+abbrev pub capabilityNumbers : Capability → List ℕ
+capabilityNumbers c = reportNumbers (c .kind) (held (c .ranges))
+
+-- preset, count, and how many bytes the steps are
+abbrev pub equalizerNumbers : (steps : ℕ) → EqReport → List ℕ
+equalizerNumbers steps e = e .preset ∷ e .count ∷ steps ∷ []
+
+-- offset of the address, status, the three details, offset and length of the name, whether it is text
+abbrev pub deviceNumbers : PairedDevice → List ℕ
+deviceNumbers d = d .address ∷ d .status ∷ d .detail0 ∷ d .detail1 ∷ d .detail2 ∷ d .name ∷ d .len ∷ bit (d .text) ∷ []
+
+-- slot, enabled
+abbrev pub settingNumbers : GeneralSettingParam → List ℕ
+settingNumbers p = p .slot ∷ bit (p .enabled) ∷ []
+
+-- a range; no answer below depends on its voice value
+abbrev pub unvoiced : (min max step : ℕ) → AmbientRange
+unvoiced min max step = record { voice = false; min = min; max = max; step = step }
+
+-- no, yes, or the refusal
+abbrev pub admitsStatus : Outcome Bool → ℕ
+admitsStatus (accepted on) = bit on
+admitsStatus (refused n vs) = n
+
+-- 1, min, max and step; 0 for none
+abbrev pub withinNumbers : Some → List ℕ
+withinNumbers (Range.some r) = 1 ∷ r .min ∷ r .max ∷ r .step ∷ []
+withinNumbers Range.none = 0 ∷ []
+
+abbrev pub shapeNumber : EqShape → ℕ
+shapeNumber E.ClearBassAndFive = 0
+shapeNumber E.TenBands = 1
+shapeNumber E.Unknown = 2

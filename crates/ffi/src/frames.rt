@@ -1,0 +1,125 @@
+// Frames.
+use crate::told::refuse;
+use crate::told::tell;
+use frame::DataType;
+use frame::Unpacked;
+use frame::Written;
+ghost use mathlib.Core.Path.{_≡_};
+ghost use Rattle.frame.specs.DataType.{fromWire};
+ghost use Rattle.frame.specs.Sum.{checksumOf};
+ghost use Rattle.frame.specs.Writing.{writeCall, writtenTold};
+ghost use Rattle.frame.specs.Escaping.{escapeOf, unescapeCall};
+ghost use Rattle.frame.specs.Framing.{packCall, ackCall, unpackCall};
+ghost use Rattle.ffi.specs.Told.{statusOf, numbersOf, told, only};
+ghost use Rattle.ffi.specs.Numbers.{placeOf, headerNumbers};
+
+#[no_mangle]
+pub extern "C" fn mdr_data_type(byte: u8) -> u8
+    ensures { λ r. ⌜ r ≡ placeOf (fromWire byte) ⌝ }
+{
+    match DataType::from_wire(byte) {
+        DataType::Data => 0,
+        DataType::Ack => 1,
+        DataType::DataMcNo1 => 2,
+        DataType::DataIcd => 3,
+        DataType::DataEv => 4,
+        DataType::DataMdr => 5,
+        DataType::DataCommon => 6,
+        DataType::DataMdrNo2 => 7,
+        DataType::Shot => 8,
+        DataType::ShotMcNo1 => 9,
+        DataType::ShotIcd => 10,
+        DataType::ShotEv => 11,
+        DataType::ShotMdr => 12,
+        DataType::ShotCommon => 13,
+        DataType::ShotMdrNo2 => 14,
+        DataType::Unknown(_) => 15,
+    }
+}
+
+#[no_mangle]
+pub extern "C" fn mdr_checksum(bytes: &[u8]) -> u8
+    ensures { λ r. ⌜ r ≡ checksumOf (now (bytes .entry)) ⌝ }
+{
+    frame::checksum(bytes)
+}
+
+// The length of what was written.
+fn written(w: Written, values: &mut [u64]) -> u8
+    ensures { λ r. ⌜ r ≡ statusOf (writtenTold w) ⌝ }
+    ensures { λ _. ⌜ now (values .exit) ≡ told (numbersOf only (writtenTold w)) (now (values .entry)) ⌝ }
+{
+    match w {
+        Written::Bytes(n) => {
+            let numbers = [n as u64];
+            tell(&numbers, values);
+            0
+        }
+        Written::Refused(r) => refuse(r, values),
+    }
+}
+
+#[no_mangle]
+pub extern "C" fn mdr_escape(src: &[u8], out: &mut [u8], values: &mut [u64]) -> u8
+    ensures { λ r. ⌜ r ≡ statusOf (writeCall (escapeOf (now (src .entry))) (now (out .entry)) .answer) ⌝ }
+    ensures { λ _. ⌜ now (values .exit) ≡ told (numbersOf only (writeCall (escapeOf (now (src .entry))) (now (out .entry)) .answer)) (now (values .entry)) ⌝ }
+    ensures { λ _. ⌜ now (out .exit) ≡ writeCall (escapeOf (now (src .entry))) (now (out .entry)) .out ⌝ }
+{
+    written(frame::escape(src, out), values)
+}
+
+#[no_mangle]
+pub extern "C" fn mdr_unescape(src: &[u8], out: &mut [u8], values: &mut [u64]) -> u8
+    ensures { λ r. ⌜ r ≡ statusOf (unescapeCall (now (src .entry)) (now (out .entry)) .answer) ⌝ }
+    ensures { λ _. ⌜ now (values .exit) ≡ told (numbersOf only (unescapeCall (now (src .entry)) (now (out .entry)) .answer)) (now (values .entry)) ⌝ }
+    ensures { λ _. ⌜ now (out .exit) ≡ unescapeCall (now (src .entry)) (now (out .entry)) .out ⌝ }
+{
+    written(frame::unescape(src, out), values)
+}
+
+#[no_mangle]
+pub extern "C" fn mdr_pack(
+    data_type: u8,
+    seq: u8,
+    payload: &[u8],
+    out: &mut [u8],
+    values: &mut [u64],
+) -> u8
+    ensures { λ r. ⌜ r ≡ statusOf (packCall (fromWire «data_type») seq (now (payload .entry)) (now (out .entry)) .answer) ⌝ }
+    ensures { λ _. ⌜ now (values .exit) ≡ told (numbersOf only (packCall (fromWire «data_type») seq (now (payload .entry)) (now (out .entry)) .answer)) (now (values .entry)) ⌝ }
+    ensures { λ _. ⌜ now (out .exit) ≡ packCall (fromWire «data_type») seq (now (payload .entry)) (now (out .entry)) .out ⌝ }
+{
+    written(
+        frame::pack(DataType::from_wire(data_type), seq, payload, out),
+        values,
+    )
+}
+
+#[no_mangle]
+pub extern "C" fn mdr_ack(seq: u8, out: &mut [u8], values: &mut [u64]) -> u8
+    ensures { λ r. ⌜ r ≡ statusOf (ackCall seq (now (out .entry)) .answer) ⌝ }
+    ensures { λ _. ⌜ now (values .exit) ≡ told (numbersOf only (ackCall seq (now (out .entry)) .answer)) (now (values .entry)) ⌝ }
+    ensures { λ _. ⌜ now (out .exit) ≡ ackCall seq (now (out .entry)) .out ⌝ }
+{
+    written(frame::ack(seq, out), values)
+}
+
+#[no_mangle]
+pub extern "C" fn mdr_unpack(frame: &[u8], work: &mut [u8], values: &mut [u64]) -> u8
+    ensures { λ r. ⌜ r ≡ statusOf (unpackCall (now (frame .entry)) (now (work .entry)) .answer) ⌝ }
+    ensures { λ _. ⌜ now (values .exit) ≡ told (numbersOf headerNumbers (unpackCall (now (frame .entry)) (now (work .entry)) .answer)) (now (values .entry)) ⌝ }
+    ensures { λ _. ⌜ now (work .exit) ≡ unpackCall (now (frame .entry)) (now (work .entry)) .work ⌝ }
+{
+    match frame::unpack(frame, work) {
+        Unpacked::Frame {
+            data_type,
+            seq,
+            len,
+        } => {
+            let numbers = [data_type.to_wire() as u64, seq as u64, len as u64];
+            tell(&numbers, values);
+            0
+        }
+        Unpacked::Refused(r) => refuse(r, values),
+    }
+}

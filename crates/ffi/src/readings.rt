@@ -1,0 +1,411 @@
+// The readings of a payload, and what stands beside them.
+use crate::told::refuse;
+use crate::told::tell;
+use capability::Admitted;
+use capability::AmbientRange;
+use capability::CapabilityAnswer;
+use capability::CapabilityReport;
+use capability::Narrowed;
+use lists::EqAnswer;
+use lists::EqShape;
+use lists::SupportCheck;
+use paired::PairedDevice;
+use paired::PairedDevices;
+use paired::PairedLookup;
+use payload::BatteryAnswer;
+use payload::BatteryReport;
+use payload::Charging;
+use payload::Message;
+use payload::NoiseAnswer;
+use payload::NoiseMode;
+use payload::NoiseReport;
+use payload::OptionByte;
+use payload::OptionCell;
+use payload::OptionFlag;
+use payload::SettingAnswer;
+use payload::Split;
+ghost use mathlib.Core.Path.{_≡_};
+ghost use lib.ListN.{length};
+ghost use Rattle.payload.specs.Message.{splitOf};
+ghost use Rattle.payload.specs.Battery.{batteryOf};
+ghost use Rattle.payload.specs.Noise.{noiseOf};
+ghost use Rattle.payload.specs.Setting.{settingOf};
+ghost use Rattle.paired.specs.Paired.{pairedOf, lookupOf, maskedOf};
+ghost use Rattle.paired.specs.Text.{isTextOf};
+ghost use Rattle.capability.specs.Capability.{capabilityOf};
+ghost use Rattle.capability.specs.Range.{admitsOf, withinOf};
+ghost use Rattle.lists.specs.Equalizer.{equalizerOf, stepsOf, shapeOf, biasOf, gainOf};
+ghost use Rattle.lists.specs.Support.{checkOf};
+ghost use Rattle.ffi.specs.Told.{statusOf, numbersOf, told, only};
+ghost use Rattle.ffi.specs.Numbers.{bit, byteOr256, flagOr2, messageNumbers, chargingNumber, cellNumbers, batteryNumbers, modeNumber, noiseNumbers, reportNumbers, capabilityNumbers, equalizerNumbers, deviceNumbers, settingNumbers, unvoiced, admitsStatus, withinNumbers, shapeNumber};
+
+pub const ABSENT: u64 = 256;
+
+fn byte_or(b: OptionByte) -> u64
+    ensures { λ r. ⌜ r ≡ byteOr256 b ⌝ }
+{
+    match b {
+        OptionByte::Byte(value) => value as u64,
+        OptionByte::NoByte => ABSENT,
+    }
+}
+
+fn flag(on: bool) -> u64
+    ensures { λ r. ⌜ r ≡ bit on ⌝ }
+{
+    if on { 1 } else { 0 }
+}
+
+fn flag_or(f: OptionFlag) -> u64
+    ensures { λ r. ⌜ r ≡ flagOr2 f ⌝ }
+{
+    match f {
+        OptionFlag::Flag(on) => flag(on),
+        OptionFlag::NoFlag => 2,
+    }
+}
+
+#[no_mangle]
+pub extern "C" fn mdr_message(payload: &[u8], values: &mut [u64]) -> u8
+    ensures { λ r. ⌜ r ≡ statusOf (splitOf (now (payload .entry))) ⌝ }
+    ensures { λ _. ⌜ now (values .exit) ≡ told (numbersOf messageNumbers (splitOf (now (payload .entry)))) (now (values .entry)) ⌝ }
+{
+    match Message::split(payload) {
+        Split::Parts(m) => {
+            let kind = m.kind;
+            let numbers = [m.command as u64, byte_or(kind), m.len as u64];
+            tell(&numbers, values);
+            0
+        }
+        Split::Refused(r) => refuse(r, values),
+    }
+}
+
+fn charging(c: Charging) -> u64
+    ensures { λ r. ⌜ r ≡ chargingNumber c ⌝ }
+{
+    match c {
+        Charging::No => 0,
+        Charging::Yes => 1,
+        Charging::Unknown => 2,
+        Charging::Charged => 3,
+        Charging::Other(b) => 256 + b as u64,
+    }
+}
+
+fn cell(c: OptionCell) -> [u64; 3]
+    ensures { λ r. ⌜ r ≡ cellNumbers c ⌝ }
+{
+    match c {
+        OptionCell::Present(there) => {
+            let status = there.charging;
+            let threshold = there.threshold;
+            [there.level as u64, charging(status), byte_or(threshold)]
+        }
+        OptionCell::Absent => [ABSENT, ABSENT, ABSENT],
+    }
+}
+
+fn battery(report: BatteryReport) -> [u64; 12]
+    ensures { λ r. ⌜ r ≡ batteryNumbers report ⌝ }
+{
+    let main = report.main;
+    let left = report.left;
+    let right = report.right;
+    let case = report.case;
+    let m = cell(main);
+    let l = cell(left);
+    let r = cell(right);
+    let c = cell(case);
+    [
+        m[0],
+        m[1],
+        m[2],
+        l[0],
+        l[1],
+        l[2],
+        r[0],
+        r[1],
+        r[2],
+        c[0],
+        c[1],
+        c[2],
+    ]
+}
+
+#[no_mangle]
+pub extern "C" fn mdr_battery(payload: &[u8], values: &mut [u64]) -> u8
+    ensures { λ r. ⌜ r ≡ statusOf (batteryOf (now (payload .entry))) ⌝ }
+    ensures { λ _. ⌜ now (values .exit) ≡ told (numbersOf batteryNumbers (batteryOf (now (payload .entry)))) (now (values .entry)) ⌝ }
+{
+    match payload::decode_battery(payload) {
+        BatteryAnswer::Report(report) => {
+            let numbers = battery(report);
+            tell(&numbers, values);
+            0
+        }
+        BatteryAnswer::Refused(r) => refuse(r, values),
+    }
+}
+
+fn noise_mode(m: NoiseMode) -> u64
+    ensures { λ r. ⌜ r ≡ modeNumber m ⌝ }
+{
+    match m {
+        NoiseMode::Off => 0,
+        NoiseMode::Anc => 1,
+        NoiseMode::Ambient => 2,
+    }
+}
+
+fn noise(report: NoiseReport) -> [u64; 7]
+    ensures { λ r. ⌜ r ≡ noiseNumbers report ⌝ }
+{
+    let mode = report.mode;
+    let mode_byte = report.mode_byte;
+    let level = report.ambient_level;
+    let focus = report.focus_on_voice;
+    let adaptive = report.adaptive;
+    let sensitivity = report.adaptive_sensitivity;
+    [
+        noise_mode(mode),
+        byte_or(mode_byte),
+        byte_or(level),
+        flag_or(focus),
+        flag(report.settled),
+        flag_or(adaptive),
+        byte_or(sensitivity),
+    ]
+}
+
+#[no_mangle]
+pub extern "C" fn mdr_noise(payload: &[u8], values: &mut [u64]) -> u8
+    ensures { λ r. ⌜ r ≡ statusOf (noiseOf (now (payload .entry))) ⌝ }
+    ensures { λ _. ⌜ now (values .exit) ≡ told (numbersOf noiseNumbers (noiseOf (now (payload .entry)))) (now (values .entry)) ⌝ }
+{
+    match payload::decode_noise(payload) {
+        NoiseAnswer::Report(report) => {
+            let numbers = noise(report);
+            tell(&numbers, values);
+            0
+        }
+        NoiseAnswer::Refused(r) => refuse(r, values),
+    }
+}
+
+fn ranges(kind: u8, report: CapabilityReport) -> [u64; 10]
+    ensures { λ r. ⌜ r ≡ reportNumbers kind report ⌝ }
+{
+    let ranges = report.ranges;
+    let a = ranges[0];
+    let b = ranges[1];
+    [
+        kind as u64,
+        report.count as u64,
+        flag(a.voice),
+        a.min as u64,
+        a.max as u64,
+        a.step as u64,
+        flag(b.voice),
+        b.min as u64,
+        b.max as u64,
+        b.step as u64,
+    ]
+}
+
+#[no_mangle]
+pub extern "C" fn mdr_noise_capability(payload: &[u8], values: &mut [u64]) -> u8
+    ensures { λ r. ⌜ r ≡ statusOf (capabilityOf (now (payload .entry))) ⌝ }
+    ensures { λ _. ⌜ now (values .exit) ≡ told (numbersOf capabilityNumbers (capabilityOf (now (payload .entry)))) (now (values .entry)) ⌝ }
+{
+    let c = capability::decode_noise_capability(payload);
+    let answer = c.answer;
+    let report = c.report;
+    match answer {
+        CapabilityAnswer::Kind(kind) => {
+            let numbers = ranges(kind, report);
+            tell(&numbers, values);
+            0
+        }
+        CapabilityAnswer::Refused(r) => refuse(r, values),
+    }
+}
+
+#[no_mangle]
+pub extern "C" fn mdr_equalizer(payload: &[u8], values: &mut [u64]) -> u8
+    ensures { λ r. ⌜ r ≡ statusOf (equalizerOf (now (payload .entry))) ⌝ }
+    ensures { λ _. ⌜ now (values .exit) ≡ told (numbersOf (equalizerNumbers (length (stepsOf (now (payload .entry))))) (equalizerOf (now (payload .entry)))) (now (values .entry)) ⌝ }
+{
+    match lists::decode_equalizer(payload) {
+        EqAnswer::Report { preset, count } => {
+            let steps = lists::equalizer_steps(payload);
+            let numbers = [preset as u64, count as u64, steps.len() as u64];
+            tell(&numbers, values);
+            0
+        }
+        EqAnswer::Refused(r) => refuse(r, values),
+    }
+}
+
+#[no_mangle]
+pub extern "C" fn mdr_paired_devices(payload: &[u8], values: &mut [u64]) -> u8
+    ensures { λ r. ⌜ r ≡ statusOf (pairedOf (now (payload .entry))) ⌝ }
+    ensures { λ _. ⌜ now (values .exit) ≡ told (numbersOf only (pairedOf (now (payload .entry)))) (now (values .entry)) ⌝ }
+{
+    match paired::decode_paired_devices(payload) {
+        PairedDevices::Count(count) => {
+            let numbers = [count as u64];
+            tell(&numbers, values);
+            0
+        }
+        PairedDevices::Refused(r) => refuse(r, values),
+    }
+}
+
+fn device(d: PairedDevice) -> [u64; 8]
+    ensures { λ r. ⌜ r ≡ deviceNumbers d ⌝ }
+{
+    [
+        d.address as u64,
+        d.status as u64,
+        d.detail0 as u64,
+        d.detail1 as u64,
+        d.detail2 as u64,
+        d.name as u64,
+        d.len as u64,
+        flag(d.text),
+    ]
+}
+
+#[no_mangle]
+pub extern "C" fn mdr_paired_device(payload: &[u8], index: usize, values: &mut [u64]) -> u8
+    ensures { λ r. ⌜ r ≡ statusOf (lookupOf (now (payload .entry)) index) ⌝ }
+    ensures { λ _. ⌜ now (values .exit) ≡ told (numbersOf deviceNumbers (lookupOf (now (payload .entry)) index)) (now (values .entry)) ⌝ }
+{
+    match paired::paired_device(payload, index) {
+        PairedLookup::Device(d) => {
+            let numbers = device(d);
+            tell(&numbers, values);
+            0
+        }
+        PairedLookup::Refused(r) => refuse(r, values),
+    }
+}
+
+#[no_mangle]
+pub extern "C" fn mdr_mask_paired(payload: &mut [u8])
+    ensures { λ _. ⌜ now (payload .exit) ≡ maskedOf (now (payload .entry)) ⌝ }
+{
+    paired::mask_paired(payload);
+}
+
+#[no_mangle]
+pub extern "C" fn mdr_support_check(payload: &[u8], values: &mut [u64]) -> u8
+    ensures { λ r. ⌜ r ≡ statusOf (checkOf (now (payload .entry))) ⌝ }
+    ensures { λ _. ⌜ now (values .exit) ≡ told (numbersOf only (checkOf (now (payload .entry)))) (now (values .entry)) ⌝ }
+{
+    match lists::check_support_functions(payload) {
+        SupportCheck::Count(count) => {
+            let numbers = [count as u64];
+            tell(&numbers, values);
+            0
+        }
+        SupportCheck::Refused(r) => refuse(r, values),
+    }
+}
+
+#[no_mangle]
+pub extern "C" fn mdr_general_setting(payload: &[u8], values: &mut [u64]) -> u8
+    ensures { λ r. ⌜ r ≡ statusOf (settingOf (now (payload .entry))) ⌝ }
+    ensures { λ _. ⌜ now (values .exit) ≡ told (numbersOf settingNumbers (settingOf (now (payload .entry)))) (now (values .entry)) ⌝ }
+{
+    match payload::decode_general_setting_param(payload) {
+        SettingAnswer::Param(p) => {
+            let numbers = [p.slot as u64, flag(p.enabled)];
+            tell(&numbers, values);
+            0
+        }
+        SettingAnswer::Refused(r) => refuse(r, values),
+    }
+}
+
+#[no_mangle]
+pub extern "C" fn mdr_is_text(bytes: &[u8]) -> bool
+    ensures { λ r. ⌜ r ≡ isTextOf (now (bytes .entry)) ⌝ }
+{
+    paired::is_text(bytes)
+}
+
+// No range's answer depends on its voice value, so none is asked for.
+fn range(min: u8, max: u8, step: u8) -> AmbientRange
+    ensures { λ r. ⌜ r ≡ unvoiced min max step ⌝ }
+{
+    AmbientRange {
+        voice: false,
+        min,
+        max,
+        step,
+    }
+}
+
+#[no_mangle]
+pub extern "C" fn mdr_admits(min: u8, max: u8, step: u8, level: i32) -> u8
+    ensures { λ r. ⌜ r ≡ admitsStatus (admitsOf (unvoiced min max step) level) ⌝ }
+{
+    match range(min, max, step).admits(level) {
+        Admitted::No => 0,
+        Admitted::Yes => 1,
+        Admitted::Refused(r) => r.number(),
+    }
+}
+
+#[no_mangle]
+pub extern "C" fn mdr_within(
+    min: u8,
+    max: u8,
+    step: u8,
+    low: u8,
+    high: u8,
+    values: &mut [u64],
+) -> u8
+    ensures { λ r. ⌜ r ≡ 0 ⌝ }
+    ensures { λ _. ⌜ now (values .exit) ≡ told (withinNumbers (withinOf (unvoiced min max step) low high)) (now (values .entry)) ⌝ }
+{
+    match range(min, max, step).within(low, high) {
+        Narrowed::Range(r) => {
+            let numbers = [1, r.min as u64, r.max as u64, r.step as u64];
+            tell(&numbers, values);
+            0
+        }
+        Narrowed::Empty => {
+            let numbers = [0];
+            tell(&numbers, values);
+            0
+        }
+    }
+}
+
+#[no_mangle]
+pub extern "C" fn mdr_eq_shape(count: usize) -> u8
+    ensures { λ r. ⌜ r ≡ shapeNumber (shapeOf count) ⌝ }
+{
+    match EqShape::of(count) {
+        EqShape::ClearBassAndFive => 0,
+        EqShape::TenBands => 1,
+        EqShape::Unknown => 2,
+    }
+}
+
+#[no_mangle]
+pub extern "C" fn mdr_eq_bias(count: usize) -> i32
+    ensures { λ r. ⌜ r ≡ biasOf (shapeOf count) ⌝ }
+{
+    EqShape::of(count).bias()
+}
+
+#[no_mangle]
+pub extern "C" fn mdr_gain(count: usize, step: u8) -> i32
+    ensures { λ r. ⌜ r ≡ gainOf count step ⌝ }
+{
+    lists::gain(count, step)
+}

@@ -1,0 +1,370 @@
+//! Each function beside the Rust's. On both sides a call is one that the compiler does not inline, on inputs that it does not know.
+use crate::system::processor_time;
+use common::choice::Choice;
+use common::frames::{self, framed};
+use common::ours;
+use common::streams::{Kind, stream};
+use original::mdr::DataType;
+use original::mdr::frame::{self, checksum, escape_into, pack, pack_into, unescape, unpack};
+use original::mdr::frame_8192;
+use original::mdr::payload::{
+    Message, Reading, Table, decode_battery, decode_equalizer, decode_general_setting_param, decode_noise,
+    decode_noise_capability, decode_paired_devices, decode_support_functions,
+};
+use std::hint::black_box;
+
+/// How many different inputs each function is timed on.
+const INPUTS: usize = 64;
+const ROUNDS: usize = 25;
+/// Seconds of a round, at least.
+const ROUND: f64 = 0.003;
+
+/// Seconds for each call, the median of the rounds; the two sides take turns.
+fn time(mut ours: impl FnMut(usize), mut rust: impl FnMut(usize), inputs: usize) -> (f64, f64) {
+    let turns_of = |f: &mut dyn FnMut(usize)| {
+        let mut turns = 1;
+        while round(f, turns, inputs) < ROUND {
+            turns *= 2;
+        }
+        turns
+    };
+    let (a, b) = (turns_of(&mut ours), turns_of(&mut rust));
+    let mut times = (vec![], vec![]);
+    for _ in 0..ROUNDS {
+        times.0.push(round(&mut ours, a, inputs) / (a * inputs) as f64);
+        times.1.push(round(&mut rust, b, inputs) / (b * inputs) as f64);
+    }
+    (median(times.0), median(times.1))
+}
+
+/// Seconds for so many turns over all inputs.
+fn round(f: &mut dyn FnMut(usize), turns: usize, inputs: usize) -> f64 {
+    let start = processor_time();
+    for _ in 0..turns {
+        for i in 0..inputs {
+            f(i);
+        }
+    }
+    processor_time() - start
+}
+
+fn median(mut times: Vec<f64>) -> f64 {
+    times.sort_by(f64::total_cmp);
+    times[times.len() / 2]
+}
+
+fn row(name: &str, (ours, rust): (f64, f64)) {
+    println!("| {name} | {:.1} | {:.1} | {:.2} |", ours * 1e9, rust * 1e9, ours / rust);
+}
+
+pub fn table() {
+    println!(
+        "Processor time of a call, median of {ROUNDS} rounds, the two sides taking turns; no buffer is cleared before a call.\n"
+    );
+    println!("| function | ours, ns | Rust, ns | ratio |");
+    println!("|---|---|---|---|");
+    for n in [8, 64, 300, 4_000] {
+        framing(n);
+    }
+    decoders();
+    for piece in [64, 4_096] {
+        scanners(piece);
+    }
+}
+
+// The Rust's functions, each a call that is not inlined.
+
+#[inline(never)]
+fn rust_checksum(bytes: &[u8]) -> u8 {
+    checksum(bytes)
+}
+
+#[inline(never)]
+fn rust_escape(src: &[u8], out: &mut Vec<u8>) {
+    out.clear();
+    escape_into(src, out);
+}
+
+#[inline(never)]
+fn rust_unescape(src: &[u8]) -> Result<Vec<u8>, frame::FrameError> {
+    unescape(src)
+}
+
+#[inline(never)]
+fn rust_pack(payload: &[u8]) -> Vec<u8> {
+    pack(DataType::DataMdr, 1, payload)
+}
+
+#[inline(never)]
+fn rust_pack_into(payload: &[u8], out: &mut Vec<u8>) {
+    out.clear();
+    pack_into(DataType::DataMdr, 1, payload, out);
+}
+
+#[inline(never)]
+fn rust_unpack(bytes: &[u8]) -> Result<frame::Frame, frame::FrameError> {
+    unpack(bytes)
+}
+
+#[inline(never)]
+fn rust_is_text(bytes: &[u8]) -> bool {
+    std::str::from_utf8(bytes).is_ok()
+}
+
+fn framing(n: usize) {
+    let mut c = Choice::new(n as u64);
+    let payloads: Vec<Vec<u8>> = (0..INPUTS).map(|_| c.bytes(n)).collect();
+    let escaped: Vec<Vec<u8>> = payloads.iter().map(|p| frames::escaped(p)).map(|f| f[1..f.len() - 1].to_vec()).collect();
+    let packed: Vec<Vec<u8>> = payloads.iter().map(|p| framed(0x0C, 1, p)).collect();
+    let mut values = [0; 4];
+    let mut out = vec![0; 2 * n + 20];
+    let mut kept = Vec::new();
+    let times = time(
+        |i| {
+            black_box(ours::checksum(black_box(&payloads[i])));
+        },
+        |i| {
+            black_box(rust_checksum(black_box(&payloads[i])));
+        },
+        INPUTS,
+    );
+    row(&format!("checksum, {n}"), times);
+    let times = time(
+        |i| {
+            ours::escape(black_box(&payloads[i]), &mut out, &mut values);
+            black_box(&out);
+        },
+        |i| {
+            rust_escape(black_box(&payloads[i]), &mut kept);
+            black_box(&kept);
+        },
+        INPUTS,
+    );
+    row(&format!("escape, {n}"), times);
+    let times = time(
+        |i| {
+            ours::unescape(black_box(&escaped[i]), &mut out, &mut values);
+            black_box(&out);
+        },
+        |i| drop(black_box(rust_unescape(black_box(&escaped[i])))),
+        INPUTS,
+    );
+    row(&format!("unescape, {n}"), times);
+    let times = time(
+        |i| {
+            ours::pack(0x0C, 1, black_box(&payloads[i]), &mut out, &mut values);
+            black_box(&out);
+        },
+        |i| drop(black_box(rust_pack(black_box(&payloads[i])))),
+        INPUTS,
+    );
+    row(&format!("pack, {n}"), times);
+    let times = time(
+        |i| {
+            ours::pack(0x0C, 1, black_box(&payloads[i]), &mut out, &mut values);
+            black_box(&out);
+        },
+        |i| {
+            rust_pack_into(black_box(&payloads[i]), &mut kept);
+            black_box(&kept);
+        },
+        INPUTS,
+    );
+    row(&format!("pack, {n}, beside `pack_into` with a buffer kept"), times);
+    let times = time(
+        |i| {
+            let room = packed[i].len() - 2;
+            ours::unpack(black_box(&packed[i]), &mut out[..room], &mut values);
+            black_box(&out);
+        },
+        |i| drop(black_box(rust_unpack(black_box(&packed[i])))),
+        INPUTS,
+    );
+    row(&format!("unpack, {n}"), times);
+    let mut wide = vec![0; 12_288];
+    let times = time(
+        |i| {
+            ours::unpack(black_box(&packed[i]), &mut wide, &mut values);
+            black_box(&wide);
+        },
+        |i| drop(black_box(rust_unpack(black_box(&packed[i])))),
+        INPUTS,
+    );
+    row(&format!("unpack, {n}, work area of 12,288"), times);
+}
+
+#[inline(never)]
+fn rust_reading(payload: &[u8], decoder: fn(&Message) -> Option<Reading>) -> Option<Reading> {
+    decoder(&Message::split(payload)?)
+}
+
+fn support_functions(m: &Message) -> Option<Reading> {
+    decode_support_functions(Table::One, m)
+}
+
+/// A decoder on payloads that it accepts, with room for so many of its numbers.
+fn decoder(name: &str, entry: u8, room: usize, ours: fn(&[u8], &mut [u64]) -> u8, rust: fn(&Message) -> Option<Reading>) {
+    let mut c = Choice::new(u64::from(entry));
+    let payloads: Vec<Vec<u8>> = (0..INPUTS).map(|_| frames::accepted(&mut c, entry, 0)).collect();
+    let mut values = [0; 16];
+    let times = time(
+        |i| {
+            black_box(ours(black_box(&payloads[i]), &mut values[..room]));
+            black_box(&values);
+        },
+        |i| drop(black_box(rust_reading(black_box(&payloads[i]), rust))),
+        INPUTS,
+    );
+    row(name, times);
+}
+
+fn decoders() {
+    decoder("battery", 1, 16, ours::battery, decode_battery);
+    decoder("battery, its numbers not asked for", 1, 0, ours::battery, decode_battery);
+    decoder("noise", 2, 16, ours::noise, decode_noise);
+    decoder("noise, its numbers not asked for", 2, 0, ours::noise, decode_noise);
+    decoder("noise capability", 3, 16, ours::noise_capability, decode_noise_capability);
+    decoder("equalizer", 4, 16, ours::equalizer, decode_equalizer);
+    decoder("paired devices, 0 to 8: the count", 5, 16, ours::paired_devices, decode_paired_devices);
+    decoder("paired devices, 0 to 8: the count and each device", 5, 16, every_device, decode_paired_devices);
+    decoder("support functions: the count", 6, 16, ours::support_check, support_functions);
+    decoder("support functions: the count and each function", 6, 16, every_function, support_functions);
+    decoder("general setting", 7, 16, ours::general_setting, decode_general_setting_param);
+    decoder("general setting, its numbers not asked for", 7, 0, ours::general_setting, decode_general_setting_param);
+
+    let mut c = Choice::new(8);
+    let names: Vec<Vec<u8>> = (0..INPUTS).map(|_| frames::name(&mut c)).collect();
+    let times = time(
+        |i| {
+            black_box(ours::is_text(black_box(&names[i])));
+        },
+        |i| {
+            black_box(rust_is_text(black_box(&names[i])));
+        },
+        INPUTS,
+    );
+    row("text, a name, beside `from_utf8`", times);
+}
+
+fn every_function(payload: &[u8], values: &mut [u64]) -> u8 {
+    let mut records = [ours::SupportFunction { code: 0, priority: 0 }; 255];
+    values[0] = ours::support_functions(1, payload, black_box(&mut records)).into();
+    0
+}
+
+fn every_device(payload: &[u8], values: &mut [u64]) -> u8 {
+    let status = ours::paired_devices(payload, values);
+    for index in 0..values[0] as usize {
+        ours::paired_device(payload, index, values);
+        black_box(&mut *values);
+    }
+    status
+}
+
+/// A mixed session of 1 MiB through the scanner, for each span.
+fn scanners(piece: usize) {
+    let bytes = stream(Kind::Mixed, 2, 1 << 20);
+    for (limit, store) in [(8_192, 12_288), (65_536, 69_632)] {
+        scanner("each span taken", limit, store, &bytes, piece, taken_spans);
+        scanner("spans read in place, then skipped", limit, store, &bytes, piece, skipped_spans);
+    }
+}
+
+fn scanner(how: &str, limit: usize, store: usize, bytes: &[u8], piece: usize, ours: fn(usize, &mut [u8], &[u8], usize) -> usize) {
+    let mut store = vec![0; store];
+    let rust = if limit == 8_192 { spans_8192 } else { spans_65536 };
+    let spans = rust(bytes, piece);
+    assert_eq!(ours(limit, &mut store, bytes, piece), spans);
+    let times = time(
+        |_| {
+            black_box(ours(limit, &mut store, black_box(bytes), piece));
+        },
+        |_| {
+            black_box(rust(black_box(bytes), piece));
+        },
+        1,
+    );
+    let name = format!("scanner, {how}; pieces of {piece}, limit {limit}, store of {}: a span", store.len());
+    row(&name, (times.0 / spans as f64, times.1 / spans as f64));
+}
+
+/// How many spans there are; each is found, then taken.
+fn taken_spans(limit: usize, store: &mut [u8], bytes: &[u8], piece: usize) -> usize {
+    let mut values = [0; 4];
+    let mut spans = 0;
+    let mut held = 0;
+    ours::open(limit, store, &mut values);
+    for piece in bytes.chunks(piece) {
+        assert_eq!(ours::push(limit, held, store, piece, &mut values), 0);
+        held = values[0] as usize;
+        loop {
+            ours::find(limit, held, store, &mut values);
+            let [found, at, len, _] = values.map(|v| v as usize);
+            if found == 1 {
+                black_box(&store[at..at + len]);
+                spans += 1;
+            }
+            ours::take(limit, held, store, &mut values);
+            held = values[1] as usize;
+            if found == 0 {
+                break;
+            }
+        }
+    }
+    spans
+}
+
+/// The same; spans are found where they stand, and go together when the store has no room for the next piece.
+fn skipped_spans(limit: usize, store: &mut [u8], bytes: &[u8], piece: usize) -> usize {
+    let mut values = [0; 4];
+    let mut spans = 0;
+    let (mut held, mut past) = (0, 0);
+    ours::open(limit, store, &mut values);
+    for piece in bytes.chunks(piece) {
+        if store.len() - held < piece.len() {
+            ours::skip(limit, held, store, past, &mut values);
+            (held, past) = (values[0] as usize, 0);
+        }
+        assert_eq!(ours::push(limit, held, store, piece, &mut values), 0);
+        held = values[0] as usize;
+        while ours::seek(&store[past..held], &mut values) == 2 {
+            let [at, len, ..] = values.map(|v| v as usize);
+            black_box(&store[past + at..past + at + len]);
+            spans += 1;
+            past += at + len;
+        }
+        // only then may take clear anything
+        if held - past > limit {
+            ours::skip(limit, held, store, past, &mut values);
+            ours::take(limit, values[0] as usize, store, &mut values);
+            (held, past) = (values[1] as usize, 0);
+        }
+    }
+    spans
+}
+
+fn spans_8192(bytes: &[u8], piece: usize) -> usize {
+    let mut scanner = frame_8192::Scanner::new();
+    let mut spans = 0;
+    for piece in bytes.chunks(piece) {
+        scanner.push(piece);
+        while let Some(span) = scanner.next_raw() {
+            black_box(&span);
+            spans += 1;
+        }
+    }
+    spans
+}
+
+fn spans_65536(bytes: &[u8], piece: usize) -> usize {
+    let mut scanner = frame::Scanner::new();
+    let mut spans = 0;
+    for piece in bytes.chunks(piece) {
+        scanner.push(piece);
+        while let Some(span) = scanner.next_raw() {
+            black_box(&span);
+            spans += 1;
+        }
+    }
+    spans
+}

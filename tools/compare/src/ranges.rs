@@ -1,0 +1,223 @@
+//! `AmbientRange`, `EqShape`, a band's gain and plans.
+use crate::case::{Case, Run, Tally, fewer, hex};
+use crate::inputs::values;
+use crate::lent::{MOST_VALUES, Told, Values, told_difference};
+use common::choice::Choice;
+use common::{frames, ours};
+use original::mdr::payload::{AmbientRange, EqShape};
+
+#[derive(Clone, Copy, Debug)]
+pub enum Call {
+    Admits { level: i32 },
+    Within { low: u8, high: u8 },
+}
+
+#[derive(Clone, Debug)]
+pub struct Range {
+    call: Call,
+    min: u8,
+    max: u8,
+    step: u8,
+    values: usize,
+}
+
+impl Case for Range {
+    fn difference(&self, tally: &mut Tally) -> Option<String> {
+        let (min, max, step) = (self.min, self.max, self.step);
+        let range = AmbientRange { voice: false, min, max, step };
+        match self.call {
+            Call::Admits { level } => {
+                // 22 where the Rust panics.
+                let panics = step == 0 && (i32::from(min)..=i32::from(max)).contains(&level);
+                let expected = if panics { 22 } else { u8::from(range.admits(level)) };
+                tally.add("admits", if expected == 22 { 22 } else { 0 });
+                let got = ours::admits(min, max, step, level);
+                (expected != got).then(|| format!("expected: {expected}\nours:     {got}"))
+            }
+            Call::Within { low, high } => {
+                tally.add("within", 0);
+                let expected = match range.within(low, high) {
+                    None => vec![0],
+                    Some(w) => vec![1, w.min.into(), w.max.into(), w.step.into()],
+                };
+                let mut values = Values::new(self.values);
+                let status = ours::within(min, max, step, low, high, values.lend());
+                told_difference(&Told::accepted(&expected), status, &values)
+            }
+        }
+    }
+
+    fn smaller(&self) -> Vec<Range> {
+        let mut all = Vec::new();
+        if self.min > 0 {
+            all.push(Range { min: self.min - 1, ..self.clone() });
+        }
+        if self.max > 0 {
+            all.push(Range { max: self.max - 1, ..self.clone() });
+        }
+        if self.step > 0 {
+            all.push(Range { step: self.step - 1, ..self.clone() });
+        }
+        let calls = match self.call {
+            Call::Admits { level } => vec![Call::Admits { level: level / 2 }, Call::Admits { level: level - level.signum() }],
+            Call::Within { low, high } => {
+                vec![Call::Within { low: low.saturating_sub(1), high }, Call::Within { low, high: high.saturating_sub(1) }]
+            }
+        };
+        let numbers = |call: Call| match call {
+            Call::Admits { level } => u64::from(level.unsigned_abs()),
+            Call::Within { low, high } => u64::from(low) + u64::from(high),
+        };
+        let fewer = calls.into_iter().filter(|&call| numbers(call) < numbers(self.call));
+        all.extend(fewer.map(|call| Range { call, ..self.clone() }));
+        all
+    }
+
+    fn shown(&self) -> String {
+        format!("{:?}, min {}, max {}, step {}, values {}", self.call, self.min, self.max, self.step, self.values)
+    }
+}
+
+/// A number of steps, and a step.
+#[derive(Clone, Debug)]
+pub struct Steps {
+    count: usize,
+    step: u8,
+}
+
+impl Case for Steps {
+    fn difference(&self, tally: &mut Tally) -> Option<String> {
+        tally.add("eq_shape", 0);
+        tally.add("eq_bias", 0);
+        tally.add("gain", 0);
+        let shape = EqShape::of(self.count);
+        let place = match shape {
+            EqShape::ClearBassAndFive => 0,
+            EqShape::TenBands => 1,
+            EqShape::Unknown => 2,
+        };
+        // A gain is 01's own: the step less the bias.
+        let expected = (place, shape.bias(), i32::from(self.step) - shape.bias());
+        let got = (ours::eq_shape(self.count), ours::eq_bias(self.count), ours::gain(self.count, self.step));
+        (expected != got).then(|| format!("shape, bias and gain expected: {expected:?}\nours:     {got:?}"))
+    }
+
+    fn smaller(&self) -> Vec<Steps> {
+        let mut all = Vec::new();
+        if self.count > 0 {
+            all.push(Steps { count: self.count / 2, ..*self });
+            all.push(Steps { count: self.count - 1, ..*self });
+        }
+        if self.step > 0 {
+            all.push(Steps { step: self.step - 1, ..*self });
+        }
+        all
+    }
+
+    fn shown(&self) -> String {
+        format!("{self:?}")
+    }
+}
+
+/// Whether a plan is one: 01's rule.
+#[derive(Clone, Debug)]
+pub struct Plan {
+    bytes: Vec<u8>,
+}
+
+pub fn is_plan(bytes: &[u8]) -> bool {
+    bytes.len() == 512 && bytes.iter().all(|&b| b <= 7)
+}
+
+impl Case for Plan {
+    fn difference(&self, tally: &mut Tally) -> Option<String> {
+        let (expected, got) = (is_plan(&self.bytes), ours::plan_fine(&self.bytes));
+        tally.add("plan_fine", if expected { 0 } else { 5 });
+        (expected != got).then(|| format!("expected: {expected}\nours:     {got}"))
+    }
+
+    fn smaller(&self) -> Vec<Plan> {
+        fewer(&self.bytes).into_iter().map(|bytes| Plan { bytes }).collect()
+    }
+
+    fn shown(&self) -> String {
+        format!("a plan of {} bytes [{}]", self.bytes.len(), hex(&self.bytes))
+    }
+}
+
+/// The house plan, which has no input.
+#[derive(Clone)]
+struct House;
+
+impl Case for House {
+    fn difference(&self, tally: &mut Tally) -> Option<String> {
+        tally.add("house_plan", 0);
+        let mut plan = [0xFF; 512];
+        ours::house_plan(&mut plan);
+        (plan[..] != frames::house_plan()).then(|| format!("ours:     {}", hex(&plan)))
+    }
+
+    fn smaller(&self) -> Vec<House> {
+        vec![]
+    }
+
+    fn shown(&self) -> String {
+        "the house plan".into()
+    }
+}
+
+const ENDS: [u8; 12] = [0, 1, 2, 3, 5, 9, 20, 127, 128, 200, 254, 255];
+
+pub fn exhaustive(run: &mut Run) {
+    let levels: Vec<i32> = (-2..30).chain([126, 127, 128, 129, 253, 254, 255, 256, 257, i32::MIN, -256, i32::MAX]).collect();
+    for min in ENDS {
+        for max in ENDS {
+            for step in ENDS {
+                let range = |call| Range { call, min, max, step, values: MOST_VALUES };
+                for &level in &levels {
+                    run.case(&range(Call::Admits { level }));
+                }
+                for low in ENDS {
+                    for high in ENDS {
+                        run.case(&range(Call::Within { low, high }));
+                    }
+                }
+            }
+        }
+    }
+    for count in (0..=20).chain([255, 256, 262, 266, usize::MAX]) {
+        for step in 0..=255 {
+            run.case(&Steps { count, step });
+        }
+    }
+    run.case(&House);
+    for n in (0..=4).chain(500..=520).chain([1_024]) {
+        for entry in [0, 7, 8, 255] {
+            run.case(&Plan { bytes: vec![entry; n] });
+        }
+    }
+    for at in 0..512 {
+        for entry in [1, 6, 7, 8, 9, 128, 255] {
+            let mut bytes = frames::house_plan();
+            bytes[at] = entry;
+            run.case(&Plan { bytes });
+        }
+    }
+}
+
+pub fn random(run: &mut Run, c: &mut Choice) {
+    let level = if c.one_in(20) { c.number() as i32 } else { c.below(300) as i32 - 20 };
+    let call = if c.one_in(2) { Call::Admits { level } } else { Call::Within { low: c.byte(), high: c.byte() } };
+    let step = if c.one_in(2) { c.below(12) as u8 } else { c.byte() };
+    run.case(&Range { call, min: c.byte(), max: c.byte(), step, values: values(c) });
+    if c.one_in(8) {
+        let n = if c.one_in(4) { c.between(505, 520) } else { 512 };
+        let mut bytes: Vec<u8> = (0..n).map(|_| c.below(8) as u8).collect();
+        if c.one_in(2) {
+            let at = c.below(n);
+            bytes[at] = c.byte();
+        }
+        run.case(&Plan { bytes });
+        run.case(&Steps { count: c.below(300), step: c.byte() });
+    }
+}

@@ -1,0 +1,403 @@
+//! Message split, the seven readings, the lookup of a paired device, masking and text beside the Rust's.
+use crate::case::{Case, Run, Tally, fewer, hex};
+use crate::inputs::{any, content, room, shortest, strings, values};
+use crate::lent::{Lent, MOST_VALUES, Told, Values, left_difference, told_difference};
+use common::choice::Choice;
+use common::frames::{accepted, damage, support};
+use common::ours;
+use original::mdr::payload::{
+    AmbientRange, Cell, Charging, Message, NoiseMode, PairedDevice, Reading, Table, decode_battery, decode_equalizer,
+    decode_general_setting_param, decode_noise, decode_noise_capability, decode_paired_devices, decode_support_functions,
+};
+
+#[derive(Clone, Copy, Debug, PartialEq)]
+pub enum Call {
+    Message,
+    Battery,
+    Noise,
+    Capability,
+    Equalizer,
+    PairedDevices,
+    PairedDevice,
+    MaskPaired,
+    SupportCheck,
+    SupportFunctions,
+    GeneralSetting,
+    IsText,
+}
+
+/// Those that read any payload.
+const READINGS: [Call; 11] = [
+    Call::Message,
+    Call::Battery,
+    Call::Noise,
+    Call::Capability,
+    Call::Equalizer,
+    Call::PairedDevices,
+    Call::PairedDevice,
+    Call::MaskPaired,
+    Call::SupportCheck,
+    Call::SupportFunctions,
+    Call::GeneralSetting,
+];
+
+#[derive(Clone, Debug)]
+pub struct Payload {
+    call: Call,
+    bytes: Vec<u8>,
+    index: usize,
+    values: usize,
+    /// Which table a support list is of, and how many records are lent over the least.
+    table: u8,
+    room: isize,
+}
+
+/// What an absent byte is in the numbers.
+const ABSENT: u64 = 256;
+
+fn byte(b: Option<u8>) -> u64 {
+    b.map_or(ABSENT, u64::from)
+}
+
+fn flag(f: Option<bool>) -> u64 {
+    f.map_or(2, u64::from)
+}
+
+fn cell(c: Option<Cell>) -> [u64; 3] {
+    let Some(c) = c else { return [ABSENT; 3] };
+    let charging = match c.charging {
+        Charging::No => 0,
+        Charging::Yes => 1,
+        Charging::Unknown => 2,
+        Charging::Charged => 3,
+        Charging::Other(b) => 256 + u64::from(b),
+    };
+    [c.level.into(), charging, byte(c.threshold)]
+}
+
+fn range(r: Option<&AmbientRange>) -> [u64; 4] {
+    r.map_or([0; 4], |r| [r.voice.into(), r.min.into(), r.max.into(), r.step.into()])
+}
+
+/// A decoder's reading, as numbers.
+fn numbers(reading: Reading) -> Vec<u64> {
+    match reading {
+        Reading::Battery(r) => [cell(r.main), cell(r.left), cell(r.right), cell(r.case)].concat(),
+        Reading::Noise(r) => {
+            let mode = match r.mode {
+                NoiseMode::Off => 0,
+                NoiseMode::Anc => 1,
+                NoiseMode::Ambient => 2,
+            };
+            vec![
+                mode,
+                byte(r.mode_byte),
+                byte(r.ambient_level),
+                flag(r.focus_on_voice),
+                r.settled.into(),
+                flag(r.adaptive),
+                byte(r.adaptive_sensitivity),
+            ]
+        }
+        // The record has two places; those behind the count are zero.
+        Reading::NoiseCapability { kind, ranges } => {
+            [&[kind.into(), ranges.len() as u64][..], &range(ranges.first()), &range(ranges.get(1))].concat()
+        }
+        Reading::Equalizer(r) => vec![r.preset.into(), r.steps.len() as u64, r.steps.len() as u64],
+        Reading::PairedDevices(devices) => vec![devices.len() as u64],
+        Reading::SupportFunctions { functions, .. } => vec![functions.len() as u64],
+        Reading::GeneralSettingParam { slot, enabled } => vec![slot.into(), enabled.into()],
+        _ => unreachable!("no decoder here reads another"),
+    }
+}
+
+fn devices(payload: &[u8]) -> Option<Vec<PairedDevice>> {
+    match decode_paired_devices(&Message::split(payload)?)? {
+        Reading::PairedDevices(devices) => Some(devices),
+        _ => None,
+    }
+}
+
+/// The device at an index: offsets found here, and held to the Rust's strings.
+fn device(payload: &[u8], index: usize) -> Told {
+    let Some(devices) = devices(payload) else { return Told::refused(19) };
+    let Some(device) = devices.get(index) else { return Told::refused(21) };
+    let mut address = 3;
+    for _ in 0..index {
+        address += 22 + usize::from(payload[address + 21]);
+    }
+    let name = address + 22;
+    let len = usize::from(payload[address + 21]);
+    let bytes = &payload[name..name + len];
+    assert_eq!(String::from_utf8_lossy(&payload[address..address + 17]), device.address);
+    assert_eq!(String::from_utf8_lossy(bytes), device.name);
+    let [a, b, c] = device.detail.map(u64::from);
+    let text = std::str::from_utf8(bytes).is_ok();
+    Told::accepted(&[address as u64, device.status.into(), a, b, c, name as u64, len as u64, text.into()])
+}
+
+impl Payload {
+    fn of(call: Call, bytes: Vec<u8>) -> Payload {
+        Payload { call, bytes, index: 0, values: MOST_VALUES, table: 1, room: 0 }
+    }
+
+    fn compare(
+        &self,
+        tally: &mut Tally,
+        entry: &'static str,
+        expected: Told,
+        ours: impl FnOnce(&[u8], &mut [u64]) -> u8,
+    ) -> Option<String> {
+        tally.add(entry, expected.status);
+        let mut values = Values::new(self.values);
+        let status = ours(&self.bytes, values.lend());
+        told_difference(&expected, status, &values)
+    }
+
+    /// A decoder that answers nothing refuses with 19, and so does one that is given no message.
+    fn reading(
+        &self,
+        tally: &mut Tally,
+        entry: &'static str,
+        rust: impl Fn(&Message) -> Option<Reading>,
+        ours: impl FnOnce(&[u8], &mut [u64]) -> u8,
+    ) -> Option<String> {
+        let reading = Message::split(&self.bytes).and_then(|m| rust(&m));
+        let expected = reading.map_or(Told::refused(19), |r| Told::accepted(&numbers(r)));
+        self.compare(tally, entry, expected, ours)
+    }
+
+    /// The pairs go to the front of the lent records; 20 where they do not fit; refusals change nothing. The export tells no table.
+    fn support_functions(&self, tally: &mut Tally) -> Option<String> {
+        let unset = ours::SupportFunction { code: 0xA5, priority: 0x5A };
+        let table = if self.table == 1 { Table::One } else { Table::Two };
+        let reading = Message::split(&self.bytes).and_then(|m| decode_support_functions(table, &m));
+        let functions = match reading {
+            Some(Reading::SupportFunctions { functions, .. }) => Some(functions),
+            _ => None,
+        };
+        // Two records before and behind are lent to nobody.
+        let room = functions.as_ref().map_or(4, Vec::len).saturating_add_signed(self.room);
+        let mut records = vec![unset; room + 4];
+        let mut expected = records.clone();
+        let refusal = match &functions {
+            None => 19,
+            Some(functions) if room < functions.len() => 20,
+            Some(functions) => {
+                for (record, f) in expected[2..].iter_mut().zip(functions) {
+                    *record = ours::SupportFunction { code: f.code, priority: f.priority };
+                }
+                0
+            }
+        };
+        tally.add("support_functions", refusal);
+        let answer = if refusal == 0 { functions.map_or(0, |f| f.len()) } else { 256 + usize::from(refusal) };
+        let got = ours::support_functions(self.table, &self.bytes, &mut records[2..2 + room]);
+        if usize::from(got) != answer {
+            return Some(format!("expected: {answer}\nours:     {got}"));
+        }
+        let at = records.iter().zip(&expected).position(|(a, b)| a != b)?;
+        Some(format!("record {} of {room} expected: {:?}\nours:     {:?}", at as isize - 2, expected[at], records[at]))
+    }
+
+    /// A payload that the decoder refuses stays as it was.
+    fn masked(&self, tally: &mut Tally) -> Option<String> {
+        let mut expected = self.bytes.clone();
+        let devices = devices(&self.bytes);
+        tally.add("mask_paired", if devices.is_some() { 0 } else { 19 });
+        if let Some(devices) = devices {
+            common::log::mask(&mut expected, devices.len());
+        }
+        let mut lent = Lent::holding(&self.bytes);
+        ours::mask_paired(lent.lend());
+        left_difference("payload", &expected, &lent)
+    }
+}
+
+impl Case for Payload {
+    fn difference(&self, tally: &mut Tally) -> Option<String> {
+        match self.call {
+            Call::Message => {
+                let expected = Message::split(&self.bytes).map_or(Told::refused(19), |m| {
+                    assert_eq!(m.body, self.bytes.get(2..).unwrap_or(&[]));
+                    Told::accepted(&[m.command.to_byte().into(), byte(m.kind), m.len as u64])
+                });
+                self.compare(tally, "message", expected, ours::message)
+            }
+            Call::Battery => self.reading(tally, "battery", decode_battery, ours::battery),
+            Call::Noise => self.reading(tally, "noise", decode_noise, ours::noise),
+            Call::Capability => self.reading(tally, "noise_capability", decode_noise_capability, ours::noise_capability),
+            Call::Equalizer => self.reading(tally, "equalizer", decode_equalizer, ours::equalizer),
+            Call::PairedDevices => self.reading(tally, "paired_devices", decode_paired_devices, ours::paired_devices),
+            Call::PairedDevice => {
+                let expected = device(&self.bytes, self.index);
+                self.compare(tally, "paired_device", expected, |bytes, values| ours::paired_device(bytes, self.index, values))
+            }
+            Call::MaskPaired => self.masked(tally),
+            Call::SupportCheck => {
+                self.reading(tally, "support_check", |m| decode_support_functions(Table::One, m), ours::support_check)
+            }
+            Call::GeneralSetting => self.reading(tally, "general_setting", decode_general_setting_param, ours::general_setting),
+            Call::SupportFunctions => self.support_functions(tally),
+            Call::IsText => {
+                let (expected, got) = (std::str::from_utf8(&self.bytes).is_ok(), ours::is_text(&self.bytes));
+                tally.add("is_text", if expected { 0 } else { b'N' });
+                (expected != got).then(|| format!("expected: {expected}\nours:     {got}"))
+            }
+        }
+    }
+
+    fn smaller(&self) -> Vec<Payload> {
+        let mut all: Vec<Payload> = fewer(&self.bytes).into_iter().map(|bytes| Payload { bytes, ..self.clone() }).collect();
+        if self.index > 0 {
+            all.push(Payload { index: self.index / 2, ..self.clone() });
+            all.push(Payload { index: self.index - 1, ..self.clone() });
+        }
+        if self.room != 0 {
+            all.push(Payload { room: self.room - self.room.signum(), ..self.clone() });
+        }
+        if self.values != MOST_VALUES {
+            all.push(Payload { values: MOST_VALUES, ..self.clone() });
+        }
+        all
+    }
+
+    fn shown(&self) -> String {
+        format!(
+            "{:?} of {} bytes [{}], index {}, values {}, table {}, {:+} records over the least",
+            self.call,
+            self.bytes.len(),
+            hex(&self.bytes),
+            self.index,
+            self.values,
+            self.table,
+            self.room
+        )
+    }
+}
+
+/// The decoder of a plan's entry.
+fn call_of(entry: u8) -> Call {
+    match entry {
+        1 => Call::Battery,
+        2 => Call::Noise,
+        3 => Call::Capability,
+        4 => Call::Equalizer,
+        5 => Call::PairedDevices,
+        6 => Call::SupportCheck,
+        _ => Call::GeneralSetting,
+    }
+}
+
+/// Everything that is short.
+pub fn exhaustive(run: &mut Run) {
+    for bytes in shortest() {
+        for call in READINGS {
+            run.case(&Payload::of(call, bytes.clone()));
+        }
+        run.case(&Payload::of(Call::IsText, bytes));
+    }
+    // Every kind with every length up to 24, over some contents.
+    let mut c = Choice::new(3);
+    let contents = [vec![0; 24], vec![1; 24], c.bytes(24), content(&mut c, 24)];
+    for call in READINGS {
+        for contents in &contents {
+            for kind in 0..=255 {
+                for n in 2..=24 {
+                    let mut bytes = contents[..n].to_vec();
+                    bytes[1] = kind;
+                    run.case(&Payload::of(call, bytes));
+                }
+            }
+        }
+    }
+    // Every byte at every place of what the decoders accept.
+    for entry in 1..=7 {
+        for _ in 0..6 {
+            let bytes = accepted(&mut c, entry, 0);
+            for at in 0..bytes.len().min(60) {
+                for b in 0..=255 {
+                    let mut bytes = bytes.clone();
+                    bytes[at] = b;
+                    run.case(&Payload::of(call_of(entry), bytes));
+                }
+            }
+        }
+    }
+    // Every length of a support list, in records exactly enough, one too few and more.
+    for count in 0..=255 {
+        for room in -2..=2 {
+            for more in [0, 1] {
+                let mut bytes = support(&mut c, 0x07, count);
+                bytes.truncate(bytes.len() - more);
+                let table = c.below(4) as u8;
+                run.case(&Payload { room, table, ..Payload::of(Call::SupportFunctions, bytes) });
+            }
+        }
+    }
+    // Every setting.
+    for kind in [0x00, 0xD1] {
+        for a in 0..=255 {
+            for b in 0..=255 {
+                run.case(&Payload::of(Call::GeneralSetting, vec![0xD7, kind, a, b]));
+            }
+        }
+    }
+    // Text round its edges.
+    let edges = [0x00, 0x7F, 0x80, 0x8F, 0x90, 0x9F, 0xA0, 0xBF, 0xC0, 0xC2, 0xE0, 0xFF];
+    for first in [0x00, 0x80, 0xC1, 0xC2, 0xDF, 0xE0, 0xE1, 0xEC, 0xED, 0xEE, 0xEF, 0xF0, 0xF1, 0xF3, 0xF4, 0xF5, 0xFF] {
+        for second in 0..=255 {
+            for rest in [strings(&edges, 1), strings(&edges, 2)].concat() {
+                run.case(&Payload::of(Call::IsText, [&[first, second], &rest[..]].concat()));
+            }
+        }
+    }
+}
+
+/// A payload of each decoder, whole, with a byte more or less, or damaged; and any bytes.
+pub fn random(run: &mut Run, c: &mut Choice) {
+    let entry = c.between(1, 7) as u8;
+    let mut bytes = if c.one_in(12) { any(c) } else { accepted(c, entry, 0) };
+    // No decoder looks at the command.
+    if let Some(command) = bytes.first_mut() {
+        *command = c.byte();
+    }
+    for _ in 0..c.of(&[0, 0, 0, 1, 1, 2, 4]) {
+        damage(c, &mut bytes);
+    }
+    if c.one_in(10) {
+        bytes.push(c.byte());
+    }
+    let index = if c.one_in(20) { c.number() as usize } else { c.below(1 + usize::from(bytes.get(2).map_or(0, |&n| n.min(9)))) };
+    let call = if c.one_in(4) { c.of(&READINGS) } else { call_of(entry) };
+    let case = Payload { call, bytes, index, values: values(c), table: c.below(4) as u8, room: room(c) };
+    run.case(&case);
+    match entry {
+        5 => {
+            run.case(&Payload { call: Call::PairedDevice, ..case.clone() });
+            run.case(&Payload { call: Call::MaskPaired, ..case });
+        }
+        6 => run.case(&Payload { call: Call::SupportFunctions, ..case }),
+        _ => {}
+    }
+}
+
+/// Text of every form, cut and damaged.
+pub fn random_text(run: &mut Run, c: &mut Choice) {
+    let mut bytes = Vec::new();
+    for _ in 0..c.below(8) {
+        let n = if c.one_in(6) { c.below(70) } else { 1 };
+        for _ in 0..n {
+            let most = c.of(&[0x80, 0x800, 0xD800, 0x1_0000, 0x11_0000]);
+            let letter = char::from_u32(c.below(most) as u32).unwrap_or('a');
+            bytes.extend(letter.to_string().bytes());
+        }
+    }
+    if c.one_in(2) {
+        damage(c, &mut bytes);
+    }
+    if c.one_in(10) {
+        bytes = any(c);
+    }
+    run.case(&Payload::of(Call::IsText, bytes));
+}

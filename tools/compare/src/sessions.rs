@@ -1,0 +1,573 @@
+//! Sessions of a scanner: open, push, find, take and line calls beside the Rust's `Scanner` and the log over its `unpack` and decoders.
+use crate::case::{Case, Run, Tally, fewer, fewer_in_frame, hex};
+use crate::inputs::{any, content, room, strings, values};
+use crate::lent::{Left, Lent, MOST_VALUES, Told, Values, left_difference, told_difference};
+use crate::ranges::is_plan;
+use common::choice::Choice;
+use common::frames::{END, HOUSE, MARKS, START, accepted, damage, framed, house_plan, name, paired};
+use common::log::Log;
+use common::ours;
+use original::mdr::frame_any::{LIMIT, Scanner};
+
+/// What is wrong with the plan of a line call.
+#[derive(Clone, Copy, Debug, PartialEq)]
+enum Fault {
+    None,
+    Short,
+    Long,
+    Entry { at: usize, entry: u8 },
+}
+
+#[derive(Clone, Debug)]
+enum Op {
+    Push(Vec<u8>),
+    Find,
+    Take,
+    /// Find and take, until there is no span.
+    TakeAll,
+    /// The work area's length less the store's; the output's length less the line's, or so many bytes where there is no line.
+    Line {
+        work: isize,
+        out: isize,
+        fault: Fault,
+    },
+    /// Line calls until there is no span or one is refused.
+    LineAll,
+    /// The caller hands over another state.
+    State {
+        limit: usize,
+        count: usize,
+    },
+    /// The caller writes to the store.
+    Store {
+        at: usize,
+        bytes: Vec<u8>,
+    },
+}
+
+#[derive(Clone)]
+pub struct Session {
+    limit: usize,
+    store: usize,
+    plan: Vec<u8>,
+    values: usize,
+    /// Whether push and take are given the state where the caller keeps it.
+    lent: bool,
+    ops: Vec<Op>,
+}
+
+/// Both sides between two calls.
+struct State<'a> {
+    session: &'a Session,
+    tally: &'a mut Tally,
+    limit: usize,
+    count: usize,
+    /// Lent to ours.
+    store: Lent,
+    /// What it should hold.
+    expected: Vec<u8>,
+    /// The Rust's side; its bytes are the first `count` of the store.
+    scanner: Scanner,
+}
+
+impl State<'_> {
+    /// Refusals 1 to 3, the lowest first.
+    fn refusal(&self) -> Option<u8> {
+        if self.limit < 9 || self.limit > 65_536 {
+            Some(1)
+        } else if self.expected.len() < self.limit + 1 {
+            Some(2)
+        } else if self.expected.len() < self.count {
+            Some(3)
+        } else {
+            None
+        }
+    }
+
+    fn compare(&self, told: &Told, status: u8, values: &Values) -> Option<String> {
+        told_difference(told, status, values).or_else(|| left_difference("store", &self.expected, &self.store))
+    }
+
+    /// The Rust's `next_raw`, and what the store holds then: what stays, at the front, and zeros.
+    fn next_raw(&mut self) -> Option<Vec<u8>> {
+        LIMIT.set(self.limit);
+        let span = self.scanner.next_raw();
+        self.count = self.scanner.buf.len();
+        self.expected.fill(0);
+        self.expected[..self.count].copy_from_slice(&self.scanner.buf);
+        span
+    }
+
+    /// Where the span lies that `next_raw` would take.
+    fn next_span(&self) -> Option<(usize, Vec<u8>)> {
+        let mut copy = Scanner::new();
+        copy.push(&self.scanner.buf);
+        LIMIT.set(self.limit);
+        let span = copy.next_raw()?;
+        Some((self.count - copy.buf.len() - span.len(), span))
+    }
+
+    fn open(&mut self) -> Option<String> {
+        let mut values = Values::new(self.session.values);
+        let status = ours::open(self.limit, self.store.lend(), values.lend());
+        let told = match self.refusal() {
+            Some(r) => Told::refused(r),
+            None => {
+                self.expected.fill(0);
+                Told::accepted(&[0])
+            }
+        };
+        self.tally.add("open", told.status);
+        self.compare(&told, status, &values)
+    }
+
+    /// A call that is lent the state, which must stay within its bounds; what it answers, the state then, or the difference.
+    fn with_state(&mut self, call: impl FnOnce(&mut ours::Scanner, &mut [u8]) -> u8) -> Result<(u8, ours::Scanner), String> {
+        let around = ours::Scanner { limit: usize::MAX / 3, count: usize::MAX / 5 };
+        let mut cells = [around, ours::Scanner { limit: self.limit, count: self.count }, around];
+        let answer = call(&mut cells[1], self.store.lend());
+        if cells[0] != around || cells[2] != around {
+            return Err("ours wrote outside of the state".into());
+        }
+        Ok((answer, cells[1]))
+    }
+
+    /// Compares what such a call answered, and the state and the store then.
+    fn compare_state(&self, expected: u8, got: Result<(u8, ours::Scanner), String>) -> Option<String> {
+        let state = ours::Scanner { limit: self.limit, count: self.count };
+        match got {
+            Err(difference) => Some(difference),
+            Ok(got) if got == (expected, state) => left_difference("store", &self.expected, &self.store),
+            Ok(got) => Some(format!("expected: {:?}\nours:     {got:?}", (expected, state))),
+        }
+    }
+
+    /// What the Rust does with a piece: the refusal's number, or 0.
+    fn pushed(&mut self, piece: &[u8]) -> u8 {
+        let full = || (self.expected.len() - self.count < piece.len()).then_some(4);
+        if let Some(r) = self.refusal().or_else(full) {
+            return r;
+        }
+        self.scanner.push(piece);
+        self.expected[self.count..self.count + piece.len()].copy_from_slice(piece);
+        self.count = self.scanner.buffered();
+        0
+    }
+
+    fn push(&mut self, piece: &[u8]) -> Option<String> {
+        if self.session.lent {
+            let got = self.with_state(|scanner, store| ours::scanner_push(scanner, store, piece));
+            let expected = self.pushed(piece);
+            self.tally.add("scanner_push", expected);
+            return self.compare_state(expected, got);
+        }
+        let mut values = Values::new(self.session.values);
+        let status = ours::push(self.limit, self.count, self.store.lend(), piece, values.lend());
+        let told = match self.pushed(piece) {
+            0 => Told::accepted(&[self.count as u64]),
+            r => Told::refused(r),
+        };
+        self.tally.add("push", told.status);
+        self.compare(&told, status, &values)
+    }
+
+    /// Whether there is a span, or the difference.
+    fn find(&mut self) -> Result<bool, String> {
+        let mut values = Values::new(self.session.values);
+        let status = ours::find(self.limit, self.count, self.store.lend(), values.lend());
+        let (told, outcome) = match self.refusal() {
+            Some(r) => (Told::refused(r), r),
+            None => match self.next_span() {
+                Some((at, span)) => (Told::accepted(&[1, at as u64, span.len() as u64]), 0),
+                None => (Told::accepted(&[0]), b'N'),
+            },
+        };
+        self.tally.add("find", outcome);
+        self.compare(&told, status, &values).map_or(Ok(outcome == 0), Err)
+    }
+
+    /// What the Rust does when a span is to be taken: the refusal's number, 0, or N.
+    fn taken(&mut self) -> u8 {
+        match self.refusal() {
+            Some(r) => r,
+            None if self.next_raw().is_some() => 0,
+            None => b'N',
+        }
+    }
+
+    fn take(&mut self) -> Option<String> {
+        if self.session.lent {
+            let got = self.with_state(ours::scanner_take);
+            let outcome = self.taken();
+            self.tally.add("scanner_take", outcome);
+            let expected = match outcome {
+                0 => 255,
+                b'N' => 0,
+                r => r,
+            };
+            return self.compare_state(expected, got);
+        }
+        let mut values = Values::new(self.session.values);
+        let status = ours::take(self.limit, self.count, self.store.lend(), values.lend());
+        let outcome = self.taken();
+        let told = match outcome {
+            0 => Told::accepted(&[1, self.count as u64]),
+            b'N' => Told::accepted(&[0, self.count as u64]),
+            r => Told::refused(r),
+        };
+        self.tally.add("take", outcome);
+        self.compare(&told, status, &values)
+    }
+
+    fn take_all(&mut self) -> Option<String> {
+        loop {
+            let found = match self.find() {
+                Ok(found) => found,
+                Err(difference) => return Some(difference),
+            };
+            let difference = self.take();
+            if difference.is_some() || !found {
+                return difference;
+            }
+        }
+    }
+
+    /// Whether a line was written, or the difference.
+    fn line(&mut self, work: isize, out: isize, fault: Fault) -> Result<bool, String> {
+        let mut plan = self.session.plan.clone();
+        match fault {
+            Fault::None => {}
+            Fault::Short => plan.truncate(511),
+            Fault::Long => plan.push(0),
+            Fault::Entry { at, entry } => plan[at] = entry,
+        }
+        let mut line = Vec::new();
+        let refusal = self.refusal();
+        if refusal.is_none()
+            && is_plan(&plan)
+            && let Some((_, span)) = self.next_span()
+        {
+            Log::default().line(&plan, &span, &mut line);
+        }
+        let mut work = Lent::new(self.expected.len().saturating_add_signed(work));
+        let mut out = Lent::new(line.len().saturating_add_signed(out));
+        let mut values = Values::new(self.session.values);
+        let status = ours::line(self.limit, self.count, self.store.lend(), &plan, work.lend(), out.lend(), values.lend());
+
+        let early = || if is_plan(&plan) { (work.held().len() < self.expected.len()).then_some(6) } else { Some(5) };
+        let (told, outcome, work_left, out_left) = if let Some(r) = refusal.or_else(early) {
+            (Told::refused(r), r, Left::Untouched, Left::Untouched)
+        } else if out.held().len() < line.len() {
+            (Told::refused(7), 7, Left::Zero, Left::Untouched)
+        } else {
+            let span = self.next_raw();
+            assert_eq!(span.is_some(), !line.is_empty());
+            let numbers = [span.is_some().into(), line.len() as u64, self.count as u64];
+            let letter = line.first().map_or(b'N', |&letter| letter);
+            (Told::accepted(&numbers), letter, Left::Zero, Left::Front(line))
+        };
+        self.tally.add("line", outcome);
+        let written = told.numbers.first() == Some(&1);
+        self.compare(&told, status, &values)
+            .or_else(|| left_difference("work area", &work_left.whole(&work), &work))
+            .or_else(|| left_difference("output", &out_left.whole(&out), &out))
+            .map_or(Ok(written), Err)
+    }
+
+    fn line_all(&mut self) -> Option<String> {
+        loop {
+            match self.line(0, 3, Fault::None) {
+                Ok(true) => {}
+                Ok(false) => return None,
+                Err(difference) => return Some(difference),
+            }
+        }
+    }
+
+    fn set(&mut self, limit: usize, count: usize) {
+        (self.limit, self.count) = (limit, count);
+        self.scanner = Scanner::new();
+        self.scanner.push(self.expected.get(..count).unwrap_or(&[]));
+    }
+
+    fn step(&mut self, op: &Op) -> Option<String> {
+        match op {
+            Op::Push(piece) => self.push(piece),
+            Op::Find => self.find().err(),
+            Op::Take => self.take(),
+            Op::TakeAll => self.take_all(),
+            Op::Line { work, out, fault } => self.line(*work, *out, *fault).err(),
+            Op::LineAll => self.line_all(),
+            Op::State { limit, count } => {
+                self.set(*limit, *count);
+                None
+            }
+            Op::Store { at, bytes } => {
+                let at = (*at).min(self.expected.len());
+                let n = bytes.len().min(self.expected.len() - at);
+                self.expected[at..at + n].copy_from_slice(&bytes[..n]);
+                self.store.lend()[at..at + n].copy_from_slice(&bytes[..n]);
+                self.set(self.limit, self.count);
+                None
+            }
+        }
+    }
+}
+
+impl Case for Session {
+    fn difference(&self, tally: &mut Tally) -> Option<String> {
+        let store = Lent::new(self.store);
+        let expected = store.filled();
+        let mut state = State { session: self, tally, limit: self.limit, count: 0, store, expected, scanner: Scanner::new() };
+        if let Some(difference) = state.open() {
+            return Some(format!("in the opening\n{difference}"));
+        }
+        for (i, op) in self.ops.iter().enumerate() {
+            if let Some(difference) = state.step(op) {
+                return Some(format!("in step {} of the session\n{difference}", i + 1));
+            }
+        }
+        None
+    }
+
+    fn smaller(&self) -> Vec<Session> {
+        let mut all = Vec::new();
+        let mut n = self.ops.len();
+        while n > 0 {
+            for at in (0..self.ops.len()).step_by(n) {
+                let mut ops = self.ops.clone();
+                ops.drain(at..ops.len().min(at + n));
+                all.push(Session { ops, ..self.clone() });
+            }
+            n /= 2;
+        }
+        for (i, op) in self.ops.iter().enumerate() {
+            let pieces = match op {
+                Op::Push(bytes) => fewer_in_frame(bytes).into_iter().map(Op::Push).collect(),
+                Op::Store { at, bytes } => fewer(bytes).into_iter().map(|bytes| Op::Store { at: *at, bytes }).collect(),
+                _ => vec![],
+            };
+            for piece in pieces {
+                let mut ops = self.ops.clone();
+                ops[i] = piece;
+                all.push(Session { ops, ..self.clone() });
+            }
+        }
+        if self.limit > 9 && self.store > 10 {
+            all.push(Session { limit: self.limit - 1, store: self.store - 1, ..self.clone() });
+        }
+        if self.store > self.limit.saturating_add(1) {
+            all.push(Session { store: self.store - 1, ..self.clone() });
+        }
+        if self.plan != house_plan() {
+            all.push(Session { plan: house_plan(), ..self.clone() });
+        }
+        if self.values != MOST_VALUES {
+            all.push(Session { values: MOST_VALUES, ..self.clone() });
+        }
+        all
+    }
+
+    fn shown(&self) -> String {
+        let how = if self.lent { "lent" } else { "by value" };
+        let mut out =
+            format!("a session: limit {}, store of {} bytes, values {}, state {how}", self.limit, self.store, self.values);
+        if self.plan != house_plan() {
+            out += &format!("\n  plan [{}]", hex(&self.plan));
+        }
+        for op in &self.ops {
+            out += "\n  ";
+            out += &match op {
+                Op::Push(piece) => format!("push {} bytes [{}]", piece.len(), hex(piece)),
+                Op::Store { at, bytes } => format!("the store becomes [{}] from {at} on", hex(bytes)),
+                op => format!("{op:?}"),
+            };
+        }
+        out
+    }
+}
+
+impl Run {
+    /// A session with the state by value, and with the state lent.
+    fn both(&mut self, session: Session) {
+        self.case(&session);
+        self.case(&Session { lent: true, ..session });
+    }
+}
+
+impl Session {
+    fn of(limit: usize, store: usize, ops: Vec<Op>) -> Session {
+        Session { limit, store, plan: house_plan(), values: MOST_VALUES, lent: false, ops }
+    }
+}
+
+const LINE: Op = Op::Line { work: 0, out: 0, fault: Fault::None };
+
+/// Every stream of START, END and 00 of up to seven bytes, whole, and byte by byte; the limit reached and passed; every store length.
+pub fn exhaustive(run: &mut Run) {
+    for n in 0..=7 {
+        for stream in strings(&[START, END, 0], n) {
+            let whole = vec![Op::Push(stream.clone()), Op::TakeAll];
+            run.both(Session::of(9, 12, whole));
+            let bytewise = stream.iter().flat_map(|&b| [Op::Push(vec![b]), Op::Find, Op::Take]).collect();
+            run.both(Session::of(9, 10, bytewise));
+            run.case(&Session::of(9, 12, vec![Op::Push(stream), LINE, Op::LineAll]));
+        }
+    }
+    for limit in [9, 10, 63, 64, 65, 254, 255, 256, 257, 8_191, 8_192, 8_193, 65_535, 65_536] {
+        for noise in [0, 1, 5] {
+            for first in limit - 1..=limit + 1 {
+                for next in [END, START, 0] {
+                    let begin = [vec![0; noise], vec![START], vec![0; first - 1]].concat();
+                    let ops = vec![
+                        Op::Push(begin),
+                        Op::Take,
+                        Op::Push(vec![next]),
+                        Op::Find,
+                        LINE,
+                        Op::Push(vec![END]),
+                        Op::TakeAll,
+                        Op::Push(framed(0x0C, 0, &[0xD7, 1, 0, 0])),
+                        Op::LineAll,
+                    ];
+                    run.both(Session::of(limit, limit + 20, ops));
+                }
+            }
+        }
+        for store in limit - 1..=limit + 3 {
+            for held in store - 2..=store + 1 {
+                let ops = vec![Op::Push(vec![START; held]), Op::Find, Op::Push(vec![END]), LINE, Op::Take, Op::Push(vec![])];
+                run.both(Session::of(limit, store, ops));
+            }
+        }
+    }
+    // States and stores that no session leads to.
+    for limit in [0, 8, 9, 10, 64, 65_536, 65_537, usize::MAX] {
+        for store in [0usize, 1, 8, 9, 10, 11, 64, 65, 66, 65_536, 65_537] {
+            for count in [0, 1, store.saturating_sub(1), store, store + 1, usize::MAX] {
+                let ops = vec![Op::State { limit, count }, Op::Push(vec![START]), Op::Push(vec![]), Op::Find, LINE, Op::Take];
+                run.both(Session::of(limit, store, ops));
+            }
+        }
+    }
+    // Every room of the output and of the work area round a line's needs.
+    for (data_type, command, entry) in HOUSE {
+        let frame = framed(data_type, 1, &accepted(&mut Choice::new(4), entry, command));
+        for out in -40..=3 {
+            for work in [0, 1, -1] {
+                let ops = vec![Op::Push(frame.clone()), Op::Line { work, out, fault: Fault::None }, Op::LineAll];
+                run.case(&Session::of(4_096, 4_100, ops));
+            }
+        }
+    }
+}
+
+/// A part of a stream: a frame that the plan names, another, a damaged one, noise, or what looks like a frame.
+fn part(c: &mut Choice) -> Vec<u8> {
+    match c.below(16) {
+        0..5 => {
+            let (data_type, command, entry) = c.of(&HOUSE);
+            framed(data_type, c.byte(), &accepted(c, entry, command))
+        }
+        5 => {
+            let names: Vec<Vec<u8>> = (0..c.below(4)).map(|_| name(c)).collect();
+            framed(0x0E, c.byte(), &paired(c, 0x37, &names))
+        }
+        6 | 7 => {
+            let (data_type, command, entry) = c.of(&HOUSE);
+            let mut payload = accepted(c, entry, command);
+            damage(c, &mut payload);
+            framed(data_type, c.byte(), &payload)
+        }
+        8 | 9 => {
+            let (data_type, command, entry) = c.of(&HOUSE);
+            let mut frame = framed(data_type, c.byte(), &accepted(c, entry, command));
+            damage(c, &mut frame);
+            frame
+        }
+        10 => framed(0x01, c.below(2) as u8, &[]),
+        11 => framed(c.byte(), c.byte(), &any(c)),
+        12 => framed(c.of(&[0x0C, 0x0E]), c.byte(), &any(c)),
+        13 => {
+            let n = c.below(30);
+            [&[START], &content(c, n)[..], &[END]].concat()
+        }
+        14 => (0..c.below(20)).map(|_| c.of(&MARKS)).collect(),
+        _ => any(c),
+    }
+}
+
+fn limit(c: &mut Choice) -> usize {
+    match c.below(400) {
+        0..60 => c.between(9, 40),
+        60..150 => c.of(&[63, 64, 65, 100, 127, 128, 129]),
+        150..260 => c.of(&[254, 255, 256, 257, 300, 512]),
+        260..340 => c.of(&[1_000, 1_024, 2_048]),
+        340..390 => c.of(&[4_096, 8_191, 8_192, 8_193]),
+        390..396 => c.of(&[65_535, 65_536]),
+        _ => c.of(&[0, 8, 65_537, usize::MAX]),
+    }
+}
+
+fn fault(c: &mut Choice) -> Fault {
+    match c.below(30) {
+        0 => Fault::Short,
+        1 => Fault::Long,
+        2 => Fault::Entry { at: c.below(512), entry: c.between(8, 255) as u8 },
+        _ => Fault::None,
+    }
+}
+
+/// What the caller does after a push.
+fn next_op(c: &mut Choice, limit: usize, store: usize) -> Option<Op> {
+    match c.below(40) {
+        0..3 => Some(Op::Take),
+        3..6 => Some(Op::Find),
+        6..9 => Some(Op::TakeAll),
+        9..13 => Some(LINE),
+        13..17 => Some(Op::Line { work: room(c), out: room(c), fault: fault(c) }),
+        17..32 => Some(Op::LineAll),
+        32 => {
+            let other = if c.one_in(2) { limit } else { c.between(8, store.max(8)) };
+            Some(Op::State { limit: other, count: c.below(store + 2) })
+        }
+        33 => {
+            let n = c.below(30);
+            Some(Op::Store { at: c.below(store + 1), bytes: content(c, n) })
+        }
+        _ => None,
+    }
+}
+
+/// A stream in random pieces, with calls between.
+pub fn random(run: &mut Run, c: &mut Choice) {
+    let limit = limit(c);
+    let bound = limit.min(65_536);
+    let store = match c.below(60) {
+        0 => c.below(bound + 1),
+        1..10 => bound + 1,
+        10..30 => bound + 1 + c.below(bound + 1),
+        _ => bound + 1 + c.below(40),
+    };
+    let mut stream = Vec::new();
+    let parts = if store <= bound { 2 } else { c.below(40) };
+    for _ in 0..parts {
+        stream.extend(part(c));
+    }
+    for _ in 0..c.of(&[0, 0, 1, 4]) {
+        damage(c, &mut stream);
+    }
+    let mut ops = Vec::new();
+    let mut rest = &stream[..];
+    let most = c.of(&[1, 20, 50, 100, 200, 300, 500, 1_000, 2_000, 5_000]).min(store.max(1));
+    while !rest.is_empty() && ops.len() < 100 {
+        let n = c.between(1, most.min(rest.len()));
+        ops.push(Op::Push(rest[..n].to_vec()));
+        rest = &rest[n..];
+        ops.extend(next_op(c, limit, store));
+    }
+    ops.push(Op::LineAll);
+    ops.push(Op::Take);
+    let plan = if c.one_in(3) { (0..512).map(|_| c.below(8) as u8).collect() } else { house_plan() };
+    run.case(&Session { limit, store, plan, values: values(c), lent: c.one_in(3), ops });
+}
