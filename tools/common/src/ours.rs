@@ -97,6 +97,20 @@ mod ffi {
             values: *mut u64,
             count: usize,
         ) -> u8;
+        pub fn mdr_all_lines(
+            limit: usize,
+            held: usize,
+            store: *mut u8,
+            store_len: usize,
+            plan: *const u8,
+            plan_len: usize,
+            work: *mut u8,
+            work_len: usize,
+            out: *mut u8,
+            out_len: usize,
+            values: *mut u64,
+            count: usize,
+        ) -> u8;
     }
 }
 
@@ -268,6 +282,25 @@ pub fn plan_fine(plan: &[u8]) -> bool {
 pub fn line(limit: usize, held: usize, store: &mut [u8], plan: &[u8], work: &mut [u8], out: &mut [u8], values: &mut [u64]) -> u8 {
     unsafe {
         ffi::mdr_line(
+            limit,
+            held,
+            store.as_mut_ptr(),
+            store.len(),
+            plan.as_ptr(),
+            plan.len(),
+            work.as_mut_ptr(),
+            work.len(),
+            out.as_mut_ptr(),
+            out.len(),
+            values.as_mut_ptr(),
+            values.len(),
+        )
+    }
+}
+
+pub fn all_lines(limit: usize, held: usize, store: &mut [u8], plan: &[u8], work: &mut [u8], out: &mut [u8], values: &mut [u64]) -> u8 {
+    unsafe {
+        ffi::mdr_all_lines(
             limit,
             held,
             store.as_mut_ptr(),

@@ -33,6 +33,14 @@ enum Op {
     },
     /// Line calls until there is no span or one is refused.
     LineAll,
+    /// The same by one call, with an output of so many bytes.
+    AllLines {
+        work: isize,
+        room: usize,
+        fault: Fault,
+    },
+    /// The first held bytes go.
+    Skip(usize),
     /// The caller hands over another state.
     State {
         limit: usize,
@@ -183,7 +191,39 @@ impl State<'_> {
             },
         };
         self.tally.add("find", outcome);
-        self.compare(&told, status, &values).map_or(Ok(outcome == 0), Err)
+        self.compare(&told, status, &values).or_else(|| self.seek()).map_or(Ok(outcome == 0), Err)
+    }
+
+    /// The same search among the held bytes alone.
+    fn seek(&mut self) -> Option<String> {
+        let held = self.store.held().get(..self.count)?.to_vec();
+        let mut values = Values::new(self.session.values);
+        let seen = ours::seek(&held, values.lend());
+        let told = match (self.next_span(), held.iter().position(|&b| b == 0x3E)) {
+            (Some((at, span)), _) => Told { status: 2, numbers: vec![at as u64, span.len() as u64] },
+            (None, Some(at)) => Told { status: 1, numbers: vec![at as u64] },
+            (None, None) => Told { status: 0, numbers: vec![] },
+        };
+        self.tally.add("seek", if told.status == 2 { 0 } else { b'N' });
+        told_difference(&told, seen, &values)
+    }
+
+    /// As many held bytes go, and the rest is left as by a take.
+    fn skip(&mut self, n: usize) -> Option<String> {
+        let mut values = Values::new(self.session.values);
+        let status = ours::skip(self.limit, self.count, self.store.lend(), n, values.lend());
+        let told = match self.refusal() {
+            Some(r) => Told::refused(r),
+            None => {
+                self.scanner.buf.drain(..n.min(self.count));
+                self.count = self.scanner.buf.len();
+                self.expected.fill(0);
+                self.expected[..self.count].copy_from_slice(&self.scanner.buf);
+                Told::accepted(&[self.count as u64])
+            }
+        };
+        self.tally.add("skip", told.status);
+        self.compare(&told, status, &values)
     }
 
     /// What the Rust does when a span is to be taken: the refusal's number, 0, or N.
@@ -232,8 +272,7 @@ impl State<'_> {
         }
     }
 
-    /// Whether a line was written, or the difference.
-    fn line(&mut self, work: isize, out: isize, fault: Fault) -> Result<bool, String> {
+    fn plan(&self, fault: Fault) -> Vec<u8> {
         let mut plan = self.session.plan.clone();
         match fault {
             Fault::None => {}
@@ -241,6 +280,47 @@ impl State<'_> {
             Fault::Long => plan.push(0),
             Fault::Entry { at, entry } => plan[at] = entry,
         }
+        plan
+    }
+
+    /// Lines one behind the other, until no span is left or one has no room.
+    fn all_lines(&mut self, work: isize, room: usize, fault: Fault) -> Option<String> {
+        let plan = self.plan(fault);
+        let mut work = Lent::new(self.expected.len().saturating_add_signed(work));
+        let mut out = Lent::new(room);
+        let mut values = Values::new(self.session.values);
+        let status = ours::all_lines(self.limit, self.count, self.store.lend(), &plan, work.lend(), out.lend(), values.lend());
+
+        let early = || if is_plan(&plan) { (work.held().len() < self.expected.len()).then_some(6) } else { Some(5) };
+        let (last, work_left, lines) = if let Some(r) = self.refusal().or_else(early) {
+            (r, Left::Untouched, vec![])
+        } else {
+            let mut lines = Vec::new();
+            let last = loop {
+                let Some((_, span)) = self.next_span() else {
+                    self.next_raw();
+                    break 0;
+                };
+                let mut line = Vec::new();
+                Log::default().line(&plan, &span, &mut line);
+                if room - lines.len() < line.len() {
+                    break 7;
+                }
+                self.next_raw();
+                lines.extend(line);
+            };
+            (last, Left::Zero, lines)
+        };
+        let told = Told { status: last, numbers: vec![lines.len() as u64, self.count as u64] };
+        self.tally.add("all_lines", last);
+        self.compare(&told, status, &values)
+            .or_else(|| left_difference("work area", &work_left.whole(&work), &work))
+            .or_else(|| left_difference("output", &Left::Front(lines).whole(&out), &out))
+    }
+
+    /// Whether a line was written, or the difference.
+    fn line(&mut self, work: isize, out: isize, fault: Fault) -> Result<bool, String> {
+        let plan = self.plan(fault);
         let mut line = Vec::new();
         let refusal = self.refusal();
         if refusal.is_none()
@@ -298,6 +378,8 @@ impl State<'_> {
             Op::TakeAll => self.take_all(),
             Op::Line { work, out, fault } => self.line(*work, *out, *fault).err(),
             Op::LineAll => self.line_all(),
+            Op::AllLines { work, room, fault } => self.all_lines(*work, *room, *fault),
+            Op::Skip(n) => self.skip(*n),
             Op::State { limit, count } => {
                 self.set(*limit, *count);
                 None
@@ -526,7 +608,10 @@ fn next_op(c: &mut Choice, limit: usize, store: usize) -> Option<Op> {
         6..9 => Some(Op::TakeAll),
         9..13 => Some(LINE),
         13..17 => Some(Op::Line { work: room(c), out: room(c), fault: fault(c) }),
-        17..32 => Some(Op::LineAll),
+        17..24 => Some(Op::LineAll),
+        24..30 => Some(Op::AllLines { work: 0, room: c.of(&[0, 4, 30, 100, 1_000, 100_000]) + c.below(12), fault: Fault::None }),
+        30 => Some(Op::AllLines { work: room(c), room: c.below(400), fault: fault(c) }),
+        31 => Some(Op::Skip(c.below(store + 2))),
         32 => {
             let other = if c.one_in(2) { limit } else { c.between(8, store.max(8)) };
             Some(Op::State { limit: other, count: c.below(store + 2) })
