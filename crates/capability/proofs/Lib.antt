@@ -1,3 +1,1 @@
-pub mod LawsRange
 pub mod LawsCapability
-pub mod CasesRange

@@ -2,11 +2,10 @@
 ghost use mathlib.Core.Path.{_≡_};
 ghost use Prim.Native.Nat.{_+_, _*_, _≤_};
 ghost use lib.ListN.{length};
-ghost use Rattle.frame.specs.Outcome.{refused};
-ghost use mathlib.Core.List.{[]};
-ghost use Rattle.capability.specs.Capability.{Reported, capabilityTold, capabilityOf, reportOf, capabilityKind, rangesOf, entryTold, entryOf, blank};
-use crate::range::AmbientRange;
+ghost use Rattle.base.specs.Refusal.{refusalTold};
+ghost use Rattle.capability.specs.Capability.{Reported, capabilityTold, capabilityOf, capabilityReport, capabilityKind, rangesOf, elementTold, elementOf, blank};
 use frame::Refusal;
+use range::AmbientRange;
 
 pub enum CapabilityAnswer {
     Kind(u8),
@@ -24,30 +23,30 @@ pub struct NoiseCapability {
     pub report: CapabilityReport,
 }
 
-enum Entry {
+enum Element {
     Range(AmbientRange),
     Bad,
 }
 
 // The element that starts at `at`.
-fn entry_at(payload: &[u8], at: usize) -> Entry
+fn element_at(payload: &[u8], at: usize) -> Element
     requires { ⌜ at + 4 ≤ length (now payload) ⌝ }
-    ensures { λ r. ⌜ entryTold r ≡ entryOf (now (payload .entry)) at ⌝ }
+    ensures { λ r. ⌜ elementTold r ≡ elementOf (now (payload .entry)) at ⌝ }
 {
     let voice = payload[at];
     let min = payload[at + 1];
     let max = payload[at + 2];
     let step = payload[at + 3];
     if voice > 0x01 {
-        return Entry::Bad;
+        return Element::Bad;
     }
     if max < min {
-        return Entry::Bad;
+        return Element::Bad;
     }
     if step == 0 {
-        return Entry::Bad;
+        return Element::Bad;
     }
-    Entry::Range(AmbientRange {
+    Element::Range(AmbientRange {
         voice: voice == 0x01,
         min,
         max,
@@ -66,8 +65,8 @@ fn unset() -> AmbientRange
     }
 }
 
-fn other_message() -> NoiseCapability
-    ensures { λ r. ⌜ Reported r (refused 19 []) ⌝ }
+fn refuse(refusal: Refusal) -> NoiseCapability
+    ensures { λ r. ⌜ Reported r (refusalTold refusal) ⌝ }
 {
     let none = unset();
     let report = CapabilityReport {
@@ -75,7 +74,7 @@ fn other_message() -> NoiseCapability
         count: 0,
     };
     NoiseCapability {
-        answer: CapabilityAnswer::Refused(Refusal::OtherMessage),
+        answer: CapabilityAnswer::Refused(refusal),
         report,
     }
 }
@@ -90,8 +89,8 @@ fn ranges_of(payload: &[u8], kind: u8, count: usize) -> NoiseCapability
     let mut ranges = [none, none];
     let mut i = 0;
     'outer: while i < count {
-        let Entry::Range(range) = entry_at(payload, 3 + 4 * i) else {
-            return other_message();
+        let Element::Range(range) = element_at(payload, 3 + 4 * i) else {
+            return refuse(Refusal::OtherMessage);
         };
         let mut k = 0;
         while k < i {
@@ -104,7 +103,7 @@ fn ranges_of(payload: &[u8], kind: u8, count: usize) -> NoiseCapability
         i += 1;
     }
     if i < count {
-        return other_message();
+        return refuse(Refusal::OtherMessage);
     }
     let report = CapabilityReport { ranges, count };
     NoiseCapability {
@@ -125,21 +124,24 @@ fn has_ranges(kind: u8) -> bool
 
 pub fn decode_noise_capability(payload: &[u8]) -> NoiseCapability
     ensures { λ r. ⌜ capabilityTold r ≡ capabilityOf (now (payload .entry)) ⌝ }
-    ensures { λ r. ⌜ r .report ≡ reportOf (capabilityOf (now (payload .entry))) ⌝ }
+    ensures { λ r. ⌜ r .report ≡ capabilityReport (capabilityOf (now (payload .entry))) ⌝ }
 {
-    if payload.len() < 3 {
-        return other_message();
+    if payload.len() < 2 {
+        return refuse(Refusal::OtherMessage);
     }
     let kind = payload[1];
     if !has_ranges(kind) {
-        return other_message();
+        return refuse(Refusal::OtherMessage);
+    }
+    if payload.len() < 3 {
+        return refuse(Refusal::OtherMessage);
     }
     let count = payload[2] as usize;
-    if count == 0 {
-        return other_message();
-    }
     if payload.len() - 3 != 4 * count {
-        return other_message();
+        return refuse(Refusal::OtherMessage);
+    }
+    if count == 0 {
+        return refuse(Refusal::OtherMessage);
     }
     ranges_of(payload, kind, count)
 }

@@ -1,6 +1,5 @@
-// What a headset says of its ambient levels, and the ranges that it says it by.
+// What a headset says of its ambient levels.
 pub mod capability;
-pub mod range;
 
 pub use capability::CapabilityAnswer;
 pub use capability::CapabilityReport;

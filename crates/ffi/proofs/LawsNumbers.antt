@@ -3,16 +3,16 @@ use Prim.Native.Nat.{ℕ}
 use mathlib.Core.Path.{_≡_, refl, sym, ap, _∙_}
 use mathlib.Core.List.{List, [], _∷_, _++_, append-assoc}
 use lib.ListN.{getD, take}
-use Rattle.frame.specs.Outcome.{Outcome, accepted}
-use Rattle.frame.specs.Refusal.{refusalTold}
-use Rattle.frame.specs.declared.refusal.Refusal.{Refusal}
-use Rattle.capability.specs.Capability.{Capability, capabilityTold, answerTold, reportOf}
+use Rattle.base.specs.Outcome.{Outcome, accepted}
+use Rattle.base.specs.Refusal.{refusalTold}
+use Rattle.base.specs.declared.refusal.Refusal.{Refusal}
+use Rattle.capability.specs.Capability.{Capability, capabilityTold, answerTold, capabilityReport}
 use Rattle.capability.specs.declared.capability.CapabilityAnswer.{CapabilityAnswer}
 use Rattle.capability.specs.declared.capability.CapabilityAnswer.the-variants.{Kind, Refused}
 use Rattle.capability.specs.declared.capability.NoiseCapability.{NoiseCapability}
-use Rattle.payload.specs.declared.battery.OptionCell.{OptionCell}
-use Rattle.payload.specs.declared.battery.OptionCell.the-variants.{Present, Absent}
-use Rattle.payload.specs.declared.battery.BatteryReport.{BatteryReport}
+use Rattle.battery.specs.declared.battery.OptionCell.{OptionCell}
+use Rattle.battery.specs.declared.battery.OptionCell.the-variants.{Present, Absent}
+use Rattle.battery.specs.declared.battery.BatteryReport.{BatteryReport}
 use Rattle.ffi.specs.Numbers.{cellNumbers, batteryNumbers, reportNumbers, capabilityNumbers}
 
 -- three numbers one by one, before others
@@ -44,5 +44,5 @@ module _ (n : NoiseCapability) {o : Outcome Capability} (told : capabilityTold n
     pub read : accepted reading ≡ o
     read = sym (ap ranged e) ∙ told
 
-    pub report-told : n .report ≡ reportOf o → reportNumbers k (n .report) ≡ capabilityNumbers reading
-    report-told h = ap (reportNumbers k) (h ∙ ap reportOf (sym read))
+    pub report-told : n .report ≡ capabilityReport o → reportNumbers k (n .report) ≡ capabilityNumbers reading
+    report-told h = ap (reportNumbers k) (h ∙ ap capabilityReport (sym read))

@@ -5,10 +5,10 @@ use mathlib.Core.Bool.{Bool, true, false}
 use mathlib.Core.List.{List}
 use lib.Dec.{eqb}
 use lib.ListN.{getD}
-use Rattle.frame.specs.Outcome.{Outcome, accepted, refused, pick}
-use Rattle.lists.specs.Support.{SupportList}
-use Rattle.lists.specs.declared.support.Table.{Table}
-use Rattle.lists.specs.declared.support.Table.the-variants.{One, Two}
+use Rattle.base.specs.Outcome.{Outcome, accepted, refused, pick}
+use Rattle.support.specs.Support.{SupportList}
+use Rattle.support.specs.declared.support.Table.{Table}
+use Rattle.support.specs.declared.support.Table.the-variants.{One, Two}
 
 -- 0 for no span, 255 for a span, or 01's number of the refusal
 abbrev pub spanNumber : Outcome Bool → ℕ

@@ -1,3 +1,2 @@
-pub mod Told
 pub mod Numbers
 pub mod Lent

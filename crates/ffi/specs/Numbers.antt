@@ -4,38 +4,36 @@ use mathlib.Core.Bool.{Bool, true, false}
 use mathlib.Core.List.{List, [], _∷_, _++_}
 use mathlib.Core.Option.{Option, none, some}
 use lib.ListN.{getD}
-use Rattle.frame.specs.Outcome.{Outcome, accepted, refused}
-use Rattle.frame.specs.DataType.{toWire}
-use Rattle.frame.specs.Framing.{Header}
-use Rattle.frame.specs.declared.data_type.DataType.{DataType}
-use Rattle.frame.specs.declared.data_type.DataType.the-variants as D
-use Rattle.scanner.specs.Search.{Spot}
-use Rattle.scanner.specs.declared.search.Sight.{Sight}
-use Rattle.scanner.specs.declared.search.Sight.the-variants.{NoStart, NoEnd, Both}
-use Rattle.payload.specs.declared.message.Message.{Message}
-use Rattle.payload.specs.declared.message.OptionByte.{OptionByte}
-use Rattle.payload.specs.declared.message.OptionByte.the-variants.{Byte, NoByte}
-use Rattle.payload.specs.declared.battery.Charging.{Charging}
-use Rattle.payload.specs.declared.battery.Charging.the-variants.{No, Yes, Unknown, Charged, Other}
-use Rattle.payload.specs.declared.battery.OptionCell.{OptionCell}
-use Rattle.payload.specs.declared.battery.OptionCell.the-variants.{Present, Absent}
-use Rattle.payload.specs.declared.battery.BatteryReport.{BatteryReport}
-use Rattle.payload.specs.declared.noise.NoiseMode.{NoiseMode}
-use Rattle.payload.specs.declared.noise.NoiseMode.the-variants.{Off, Anc, Ambient}
-use Rattle.payload.specs.declared.noise.OptionFlag.{OptionFlag}
-use Rattle.payload.specs.declared.noise.OptionFlag.the-variants.{Flag, NoFlag}
-use Rattle.payload.specs.declared.noise.NoiseReport.{NoiseReport}
+use Rattle.base.specs.Outcome.{Outcome, accepted, refused}
+use Rattle.base.specs.DataType.{toWire}
+use Rattle.framing.specs.Framing.{Header}
+use Rattle.base.specs.declared.data_type.DataType.{DataType}
+use Rattle.base.specs.declared.data_type.DataType.the-variants as D
+use Rattle.held.specs.Search.{Spot}
+use Rattle.held.specs.declared.search.Sight.{Sight}
+use Rattle.held.specs.declared.search.Sight.the-variants.{NoStart, NoEnd, Both}
+use Rattle.reading.specs.declared.message.Message.{Message}
+use Rattle.reading.specs.declared.message.OptionByte.{OptionByte}
+use Rattle.reading.specs.declared.message.OptionByte.the-variants.{Byte, NoByte}
+use Rattle.battery.specs.declared.battery.Charging.{Charging}
+use Rattle.battery.specs.declared.battery.Charging.the-variants.{No, Yes, Unknown, Charged, Other}
+use Rattle.battery.specs.declared.battery.OptionCell.{OptionCell}
+use Rattle.battery.specs.declared.battery.OptionCell.the-variants.{Present, Absent}
+use Rattle.battery.specs.declared.battery.BatteryReport.{BatteryReport}
+use Rattle.noise.specs.declared.noise.NoiseMode.{NoiseMode}
+use Rattle.noise.specs.declared.noise.NoiseMode.the-variants.{Off, Anc, Ambient}
+use Rattle.noise.specs.declared.noise.OptionFlag.{OptionFlag}
+use Rattle.noise.specs.declared.noise.OptionFlag.the-variants.{Flag, NoFlag}
+use Rattle.noise.specs.declared.noise.NoiseReport.{NoiseReport}
 use Rattle.payload.specs.declared.setting.GeneralSettingParam.{GeneralSettingParam}
 use Rattle.paired.specs.declared.paired.PairedDevice.{PairedDevice}
-use Rattle.capability.specs.Range.{Some}
-use Rattle.capability.specs.Range as Range
 use Rattle.capability.specs.Capability.{Capability, held, blank}
-use Rattle.capability.specs.declared.range.AmbientRange.{AmbientRange}
+use Rattle.range.specs.declared.range.AmbientRange.{AmbientRange}
 use Rattle.capability.specs.declared.capability.CapabilityReport.{CapabilityReport}
-use Rattle.lists.specs.Equalizer.{EqReport}
-use Rattle.log.specs.AllLines.{LinesEffect}
-use Rattle.lists.specs.declared.equalizer.EqShape.{EqShape}
-use Rattle.lists.specs.declared.equalizer.EqShape.the-variants as E
+use Rattle.equalizer.specs.Equalizer.{EqReport}
+use Rattle.gathering.specs.Gathering.{LinesEffect}
+use Rattle.equalizer.specs.declared.equalizer.EqShape.{EqShape}
+use Rattle.equalizer.specs.declared.equalizer.EqShape.the-variants as E
 
 abbrev pub bit : Bool → ℕ
 bit false = 0
@@ -51,23 +49,23 @@ flagOr2 (Flag on) = bit on
 flagOr2 NoFlag = 2
 
 -- the place of a type's name in the list
-abbrev pub placeOf : DataType → ℕ
-placeOf D.Data = 0
-placeOf D.Ack = 1
-placeOf D.DataMcNo1 = 2
-placeOf D.DataIcd = 3
-placeOf D.DataEv = 4
-placeOf D.DataMdr = 5
-placeOf D.DataCommon = 6
-placeOf D.DataMdrNo2 = 7
-placeOf D.Shot = 8
-placeOf D.ShotMcNo1 = 9
-placeOf D.ShotIcd = 10
-placeOf D.ShotEv = 11
-placeOf D.ShotMdr = 12
-placeOf D.ShotCommon = 13
-placeOf D.ShotMdrNo2 = 14
-placeOf (D.Unknown b) = 15
+abbrev pub typeNumber : DataType → ℕ
+typeNumber D.Data = 0
+typeNumber D.Ack = 1
+typeNumber D.DataMcNo1 = 2
+typeNumber D.DataIcd = 3
+typeNumber D.DataEv = 4
+typeNumber D.DataMdr = 5
+typeNumber D.DataCommon = 6
+typeNumber D.DataMdrNo2 = 7
+typeNumber D.Shot = 8
+typeNumber D.ShotMcNo1 = 9
+typeNumber D.ShotIcd = 10
+typeNumber D.ShotEv = 11
+typeNumber D.ShotMdr = 12
+typeNumber D.ShotCommon = 13
+typeNumber D.ShotMdrNo2 = 14
+typeNumber (D.Unknown b) = 15
 
 -- the wire byte of the type, the sequence, the payload's length
 abbrev pub headerNumbers : Header → List ℕ
@@ -172,9 +170,9 @@ admitsStatus (accepted on) = bit on
 admitsStatus (refused n vs) = n
 
 -- 1, min, max and step; 0 for none
-abbrev pub withinNumbers : Some → List ℕ
-withinNumbers (Range.some r) = 1 ∷ r .min ∷ r .max ∷ r .step ∷ []
-withinNumbers Range.none = 0 ∷ []
+abbrev pub withinNumbers : Option AmbientRange → List ℕ
+withinNumbers (some r) = 1 ∷ r .min ∷ r .max ∷ r .step ∷ []
+withinNumbers none = 0 ∷ []
 
 abbrev pub shapeNumber : EqShape → ℕ
 shapeNumber E.ClearBassAndFive = 0

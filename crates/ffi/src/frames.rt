@@ -1,21 +1,21 @@
 // Frames.
-use crate::told::refuse;
-use crate::told::tell;
 use frame::DataType;
 use frame::Unpacked;
 use frame::Written;
+use telling::refuse;
+use telling::tell;
 ghost use mathlib.Core.Path.{_≡_};
-ghost use Rattle.frame.specs.DataType.{fromWire};
-ghost use Rattle.frame.specs.Sum.{checksumOf};
-ghost use Rattle.frame.specs.Writing.{writeCall, writtenTold};
-ghost use Rattle.frame.specs.Escaping.{escapeOf, unescapeCall};
-ghost use Rattle.frame.specs.Framing.{packCall, ackCall, unpackCall};
-ghost use Rattle.ffi.specs.Told.{statusOf, numbersOf, told, only};
-ghost use Rattle.ffi.specs.Numbers.{placeOf, headerNumbers};
+ghost use Rattle.base.specs.DataType.{fromWire};
+ghost use Rattle.base.specs.Sum.{checksumOf};
+ghost use Rattle.base.specs.Writing.{writeCall, writtenTold};
+ghost use Rattle.escaping.specs.Escaping.{escapeOf, unescapeCall};
+ghost use Rattle.framing.specs.Framing.{packCall, ackCall, unpackCall};
+ghost use Rattle.telling.specs.Told.{statusOf, numbersOf, told, only};
+ghost use Rattle.ffi.specs.Numbers.{typeNumber, headerNumbers};
 
 #[no_mangle]
 pub extern "C" fn mdr_data_type(byte: u8) -> u8
-    ensures { λ r. ⌜ r ≡ placeOf (fromWire byte) ⌝ }
+    ensures { λ r. ⌜ r ≡ typeNumber (fromWire byte) ⌝ }
 {
     match DataType::from_wire(byte) {
         DataType::Data => 0,

@@ -8,9 +8,9 @@ use scanner::Scanner;
 use scanner::TakeAnswer;
 ghost use mathlib.Core.Path.{_≡_};
 ghost use Rattle.scanner.specs.Scanner.{pushCall, pushTold};
-ghost use Rattle.scanner.specs.Take.{takeCall, takeTold};
-ghost use Rattle.lists.specs.Support.{supportCall, supportTold};
-ghost use Rattle.ffi.specs.Told.{statusOf};
+ghost use Rattle.scanner.specs.Taking.{takeCall, takeTold};
+ghost use Rattle.support.specs.Support.{supportCall, supportTold};
+ghost use Rattle.telling.specs.Told.{statusOf};
 ghost use Rattle.ffi.specs.Lent.{spanNumber, countNumber, tableOf, Counted};
 
 fn push_status(answer: PushAnswer) -> u8

@@ -4,4 +4,3 @@ pub mod lent;
 pub mod logging;
 pub mod readings;
 pub mod scans;
-pub mod told;

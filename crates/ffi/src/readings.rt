@@ -1,6 +1,4 @@
 // The readings of a payload, and what stands beside them.
-use crate::told::refuse;
-use crate::told::tell;
 use capability::Admitted;
 use capability::AmbientRange;
 use capability::CapabilityAnswer;
@@ -24,19 +22,21 @@ use payload::OptionCell;
 use payload::OptionFlag;
 use payload::SettingAnswer;
 use payload::Split;
+use telling::refuse;
+use telling::tell;
 ghost use mathlib.Core.Path.{_≡_};
 ghost use lib.ListN.{length};
-ghost use Rattle.payload.specs.Message.{splitOf};
-ghost use Rattle.payload.specs.Battery.{batteryOf};
-ghost use Rattle.payload.specs.Noise.{noiseOf};
+ghost use Rattle.reading.specs.Message.{splitOf};
+ghost use Rattle.battery.specs.Battery.{batteryOf};
+ghost use Rattle.noise.specs.Noise.{noiseOf};
 ghost use Rattle.payload.specs.Setting.{settingOf};
 ghost use Rattle.paired.specs.Paired.{pairedOf, lookupOf, maskedOf};
-ghost use Rattle.paired.specs.Text.{isTextOf};
+ghost use Rattle.text.specs.Text.{isTextOf};
 ghost use Rattle.capability.specs.Capability.{capabilityOf};
-ghost use Rattle.capability.specs.Range.{admitsOf, withinOf};
-ghost use Rattle.lists.specs.Equalizer.{equalizerOf, stepsOf, shapeOf, biasOf, gainOf};
-ghost use Rattle.lists.specs.Support.{checkOf};
-ghost use Rattle.ffi.specs.Told.{statusOf, numbersOf, told, only};
+ghost use Rattle.range.specs.Range.{admitsOf, withinOf};
+ghost use Rattle.equalizer.specs.Equalizer.{equalizerOf, stepsOf, shapeOf, biasOf, gainOf};
+ghost use Rattle.support.specs.Support.{checkOf};
+ghost use Rattle.telling.specs.Told.{statusOf, numbersOf, told, only};
 ghost use Rattle.ffi.specs.Numbers.{bit, byteOr256, flagOr2, messageNumbers, chargingNumber, cellNumbers, batteryNumbers, modeNumber, noiseNumbers, reportNumbers, capabilityNumbers, equalizerNumbers, deviceNumbers, settingNumbers, unvoiced, admitsStatus, withinNumbers, shapeNumber};
 
 pub const ABSENT: u64 = 256;

@@ -1,20 +1,20 @@
 // The scanner, its state as two numbers.
-use crate::told::refuse;
-use crate::told::tell;
 use scanner::Found;
 use scanner::OpenAnswer;
 use scanner::PushAnswer;
-use scanner::Scanner;
 use scanner::Sight;
 use scanner::SkipAnswer;
 use scanner::TakeAnswer;
+use telling::refuse;
+use telling::state;
+use telling::tell;
 ghost use mathlib.Core.Path.{_≡_};
 ghost use Rattle.scanner.specs.Scanner.{openCall, openTold, pushCall, pushTold};
-ghost use Rattle.scanner.specs.Search.{findCall, foundTold};
-ghost use Rattle.scanner.specs.Skip.{skipCall, skipTold};
-ghost use Rattle.scanner.specs.Steps.{sightOf};
-ghost use Rattle.scanner.specs.Take.{takeCall, takeTold};
-ghost use Rattle.ffi.specs.Told.{statusOf, numbersOf, told, only, state};
+ghost use Rattle.scanner.specs.Finding.{findCall, foundTold};
+ghost use Rattle.scanner.specs.Skipping.{skipCall, skipTold};
+ghost use Rattle.held.specs.Search.{sightOf};
+ghost use Rattle.scanner.specs.Taking.{takeCall, takeTold};
+ghost use Rattle.telling.specs.Told.{statusOf, numbersOf, told, only, state};
 ghost use Rattle.ffi.specs.Numbers.{spotNumbers, takeNumbers, sightNumber, sightNumbers};
 
 fn open_told(answer: OpenAnswer, count: usize, values: &mut [u64]) -> u8
@@ -69,7 +69,7 @@ pub extern "C" fn mdr_push(
     ensures { λ _. ⌜ now (values .exit) ≡ told (numbersOf (λ _. only (pushCall (state limit count) (now (store .entry)) (now (piece .entry)) .scanner .count)) (pushCall (state limit count) (now (store .entry)) (now (piece .entry)) .answer)) (now (values .entry)) ⌝ }
     ensures { λ _. ⌜ now (store .exit) ≡ pushCall (state limit count) (now (store .entry)) (now (piece .entry)) .store ⌝ }
 {
-    let pushed = scanner::push(Scanner { limit, count }, store, piece);
+    let pushed = scanner::push(state(limit, count), store, piece);
     let answer = pushed.answer;
     let next = pushed.scanner;
     push_told(answer, next.count, values)
@@ -99,7 +99,7 @@ pub extern "C" fn mdr_find(limit: usize, count: usize, store: &[u8], values: &mu
     ensures { λ r. ⌜ r ≡ statusOf (findCall (state limit count) (now (store .entry))) ⌝ }
     ensures { λ _. ⌜ now (values .exit) ≡ told (numbersOf spotNumbers (findCall (state limit count) (now (store .entry)))) (now (values .entry)) ⌝ }
 {
-    find_told(scanner::find(Scanner { limit, count }, store), values)
+    find_told(scanner::find(state(limit, count), store), values)
 }
 
 fn take_told(answer: TakeAnswer, count: usize, values: &mut [u64]) -> u8
@@ -127,7 +127,7 @@ pub extern "C" fn mdr_take(limit: usize, count: usize, store: &mut [u8], values:
     ensures { λ _. ⌜ now (values .exit) ≡ told (numbersOf (takeNumbers (takeCall (state limit count) (now (store .entry)) .scanner .count)) (takeCall (state limit count) (now (store .entry)) .answer)) (now (values .entry)) ⌝ }
     ensures { λ _. ⌜ now (store .exit) ≡ takeCall (state limit count) (now (store .entry)) .store ⌝ }
 {
-    let taken = scanner::take(Scanner { limit, count }, store);
+    let taken = scanner::take(state(limit, count), store);
     let answer = taken.answer;
     let next = taken.scanner;
     take_told(answer, next.count, values)
@@ -186,7 +186,7 @@ pub extern "C" fn mdr_skip(
     ensures { λ _. ⌜ now (values .exit) ≡ told (numbersOf (λ _. only (skipCall (state limit count) (now (store .entry)) n .scanner .count)) (skipCall (state limit count) (now (store .entry)) n .answer)) (now (values .entry)) ⌝ }
     ensures { λ _. ⌜ now (store .exit) ≡ skipCall (state limit count) (now (store .entry)) n .store ⌝ }
 {
-    let skipped = scanner::skip(Scanner { limit, count }, store, n);
+    let skipped = scanner::skip(state(limit, count), store, n);
     let answer = skipped.answer;
     let next = skipped.scanner;
     skip_told(answer, next.count, values)

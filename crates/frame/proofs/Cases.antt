@@ -3,12 +3,12 @@ use Prim.Native.Nat.{ℕ}
 use mathlib.Core.Path.{_≡_, refl}
 use mathlib.Core.List.{List, [], _∷_, _++_}
 use lib.ListN.{replicate}
-use Rattle.frame.specs.Outcome.{accepted, refused}
-use Rattle.frame.specs.DataType.{fromWire}
-use Rattle.frame.specs.Sum.{total, checksumOf}
-use Rattle.frame.specs.Escaping.{eachOf, escapedByte, escapeeThen, unescapeOf}
-use Rattle.frame.specs.Writing.{WriteEffect, writeCall}
-use Rattle.frame.specs.Framing.{bodyOf, frameOf, packCall, ackCall, bodyChecked, marked, unpackOf}
+use Rattle.base.specs.Outcome.{accepted, refused}
+use Rattle.base.specs.DataType.{fromWire}
+use Rattle.base.specs.Sum.{total, checksumOf}
+use Rattle.escaping.specs.Escaping.{eachOf, escapedByte, escapeeThen, unescapeOf}
+use Rattle.base.specs.Writing.{writeOr, WriteEffect}
+use Rattle.framing.specs.Framing.{bodyOf, frameOf, packCall, ackCall, bodyChecked, marked, unpackOf}
 
 -- checksum of nothing `00`, of `FF 02` `01`
 pub case-a : (checksumOf [] ≡ 0x00) × (checksumOf (0xFF ∷ 0x02 ∷ []) ≡ 0x01)
@@ -17,7 +17,7 @@ case-a = (refl, refl)
 
 -- the ack for `C5`
 pub case-b : ackCall 0xC5 (replicate 11 0) ≡ record { answer = accepted 11; out = 0x3E ∷ 0x01 ∷ 0x3D ∷ 0x2C ∷ 0x00 ∷ 0x00 ∷ 0x00 ∷ 0x00 ∷ 0x3D ∷ 0x2D ∷ 0x3C ∷ [] }
-unfolding total eachOf escapedByte bodyOf frameOf writeCall packCall
+unfolding total eachOf escapedByte bodyOf frameOf writeOr packCall
 case-b = refl
 
 -- a body under 7 bytes

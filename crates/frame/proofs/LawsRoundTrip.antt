@@ -10,18 +10,18 @@ use lib.ListN.{length, take, drop, getD, replicate, length-append, length-take, 
 use lib.Seq.{take-at, take-suc, take-all, drop-at, getD-at, length-take-le}
 use lib.Dec.{ltb, eqb}
 use borrow.Author.Tests.{lt-ltb, le-ltb, eq-eqb, ne-eqb, ltb-true, ltb-false, eqb-true, eqb-false}
-use Rattle.frame.specs.Outcome.{Outcome, accepted, refused, pick, onAccepted}
-use Rattle.frame.specs.DataType.{fromWire, toWire}
-use Rattle.frame.specs.Sum.{total, checksumOf}
-use Rattle.frame.specs.Escaping.{START, END, SENTRY, escapedByte, eachOf, escapeOf, thenByte, escapeeThen, unescapeOf, escapeeOf}
-use Rattle.frame.specs.Framing.{lengthField, summedOf, bodyOf, frameOf, Header, lengthOf, carried, summed, bodyChecked, thenChecked, inner, marked, unpackOf, payloadOf, headerOf, unpackBy, unpackCall}
-use Rattle.frame.specs.declared.data_type.DataType.{DataType}
-use Rattle.frame.proofs.LawsTests.{by-eqb}
-use Rattle.frame.proofs.LawsDataType.{Yielded, returns}
-use Rattle.frame.proofs.LawsEscaping.{each-byte, special, plain-byte}
-use Rattle.frame.proofs.LawsUnescaping.{unescape-ind}
-use Rattle.frame.proofs.LawsFraming.{mark-next}
-use Rattle.frame.proofs.LawsFree.{Free, Bytes, escaped-no-start, escaped-no-end}
+use Rattle.base.specs.Outcome.{Outcome, accepted, refused, pick, onAccepted}
+use Rattle.base.specs.DataType.{fromWire, toWire}
+use Rattle.base.specs.Sum.{total, checksumOf}
+use Rattle.escaping.specs.Escaping.{START, END, SENTRY, escapedByte, eachOf, escapeOf, thenByte, escapeeThen, unescapeOf, escapeeOf}
+use Rattle.framing.specs.Framing.{lengthField, summedOf, bodyOf, frameOf, Header, lengthOf, carried, summed, bodyChecked, thenChecked, inner, marked, unpackOf, payloadOf, headerOf, unpackBy, unpackCall}
+use Rattle.base.specs.declared.data_type.DataType.{DataType}
+use Rattle.base.proofs.LawsTests.{by-eqb}
+use Rattle.base.proofs.LawsDataType.{Yielded, returns}
+use Rattle.escaping.proofs.LawsEscaping.{each-byte, special, plain-byte}
+use Rattle.escaping.proofs.LawsUnescaping.{unescape-ind}
+use Rattle.framing.proofs.LawsFraming.{mark-next}
+use Rattle.escaping.proofs.LawsFree.{Free, Bytes, escaped-no-start, escaped-no-end}
 
 -- unescaping undoes escaping
 unescape-byte : (rest : List ℕ) (b : ℕ) → unescapeOf (escapedByte b ++ rest) ≡ thenByte b (unescapeOf rest)

@@ -1,10 +1,2 @@
-pub mod LawsTests
-pub mod LawsSum
-pub mod LawsWriting
-pub mod LawsEscaping
-pub mod LawsUnescaping
-pub mod LawsFraming
-pub mod LawsDataType
-pub mod LawsFree
 pub mod LawsRoundTrip
 pub mod Cases

@@ -1,18 +1,18 @@
-// The MDR wire frame: data types, checksum, escaping, pack and unpack.
-pub mod data_type;
-pub mod escaping;
-pub mod framing;
-pub mod refusal;
-pub mod sum;
-pub mod writing;
-
-pub use data_type::DataType;
+// The MDR wire frame, under one name: data types, checksum, escaping, pack and unpack.
+pub use base::DataType;
+pub use base::Refusal;
+pub use base::Written;
+pub use base::checksum;
+pub use base::wipe;
+pub use base::wipe_from;
+pub use escaping::END;
+pub use escaping::SENTRY;
+pub use escaping::START;
 pub use escaping::escape;
+pub use escaping::escape_fits;
+pub use escaping::escaped_len;
 pub use escaping::unescape;
 pub use framing::Unpacked;
 pub use framing::ack;
 pub use framing::pack;
 pub use framing::unpack;
-pub use refusal::Refusal;
-pub use sum::checksum;
-pub use writing::Written;

@@ -1,7 +1,4 @@
 // The counted lists: an equalizer's steps and a headset's functions.
-pub mod equalizer;
-pub mod support;
-
 pub use equalizer::EqAnswer;
 pub use equalizer::EqShape;
 pub use equalizer::decode_equalizer;

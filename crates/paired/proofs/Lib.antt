@@ -1,4 +1,3 @@
-pub mod LawsText
 pub mod LawsPaired
 pub mod LawsMasked
 pub mod CasesPaired

@@ -1,46 +1,36 @@
 -- 01, "Messages and decoders": `decode_paired_devices`, a device by its index; "Plan and outgoing line": the masked payload.
-use Prim.Native.Nat.{ℕ, zero, suc, _+_, _≤_, _<_}
-use mathlib.Core.Path.{_≡_}
+use Prim.Native.Nat.{ℕ, zero, suc, _+_}
 use mathlib.Core.List.{List, []}
-use mathlib.Core.Logic.{_⊎_}
-use lib.ListN.{length, getD, take, drop, replicate}
-use lib.Seq.{sets}
+use lib.ListN.{getD, take, drop, set}
 use lib.Dec.{ltb, eqb}
-use Rattle.frame.specs.Outcome.{Outcome, accepted, refused, pick}
-use Rattle.frame.specs.Refusal.{refusalTold}
-use Rattle.paired.specs.Text.{isTextOf}
+use Rattle.base.specs.Outcome.{Outcome, accepted, refused, pick}
+use Rattle.base.specs.Refusal.{refusalTold}
+use Rattle.reading.specs.Items.{headed, walk, counted}
+use Rattle.reading.specs.Reading.{readingOf}
+use Rattle.text.specs.Text.{isTextOf}
 use Rattle.paired.specs.declared.paired.PairedDevices.{PairedDevices}
 use Rattle.paired.specs.declared.paired.PairedDevices.the-variants.{Count, Refused}
 use Rattle.paired.specs.declared.paired.PairedDevice.{PairedDevice}
 use Rattle.paired.specs.declared.paired.PairedLookup.{PairedLookup}
 use Rattle.paired.specs.declared.paired.PairedLookup.the-variants.{Device, Refused as Refused′}
 
--- "17 address bytes, status, three detail bytes, name length, name": the name's length, and the place after the device at `at`;
--- a byte that is not there reads as 0, so a device that runs past the payload ends behind it
+-- "17 address bytes, status, three detail bytes, name length, name": a head of 21 bytes, then the name by its length
 abbrev pub nameLength : List ℕ → ℕ → ℕ
 nameLength payload at = getD payload (at + 21) 0
 
 abbrev pub deviceEnd : List ℕ → ℕ → ℕ
-deviceEnd payload at = at + 22 + nameLength payload at
-
--- the place after so many devices, the first of them at `at`
-unfoldable pub devicesEnd : List ℕ → ℕ → ℕ → ℕ
-devicesEnd payload zero at = at
-devicesEnd payload (suc n) at = devicesEnd payload n (deviceEnd payload at)
+deviceEnd payload at = at + headed 21 payload at
 
 -- the count, and where the device of an index begins
 abbrev pub countOf : List ℕ → ℕ
 countOf payload = getD payload 2 0
 
 abbrev pub startOf : List ℕ → ℕ → ℕ
-startOf payload index = devicesEnd payload index 3
+startOf payload index = walk (headed 21) payload index 3
 
--- "kind `02`; count, then per device ..; then exactly one byte more. The answer is the count"; else 19
-unfoldable pub pairedOf : List ℕ → Outcome ℕ
-pairedOf payload =
-    pick (eqb (getD payload 1 0) 0x02)
-    (pick (eqb (startOf payload (countOf payload) + 1) (length payload)) (accepted (countOf payload)) (refused 19 []))
-    (refused 19 [])
+-- "kind `02`; count, then per device ..; then exactly one byte more. The answer is the count"
+abbrev pub pairedOf : List ℕ → Outcome ℕ
+pairedOf payload = readingOf (λ kind. eqb kind 0x02) (counted 2 (headed 21) 1) (λ p. accepted (countOf p)) payload
 
 abbrev pub pairedTold : PairedDevices → Outcome ℕ
 pairedTold (Count n) = accepted n
@@ -60,7 +50,7 @@ deviceAt payload at = record {
   text = isTextOf (take (nameLength payload at) (drop (at + 22) payload));
 }
 
--- 19 where the decoder refuses, then 21 for an index not below the count
+-- what the decoder tries, then 21 for an index not below the count
 abbrev pub lookupBy : Outcome ℕ → List ℕ → ℕ → Outcome PairedDevice
 lookupBy (refused n vs) payload index = refused n vs
 lookupBy (accepted count) payload index =
@@ -74,24 +64,23 @@ lookupTold (Device d) = accepted d
 lookupTold (Refused′ r) = refusalTold r
 
 -- k bytes from `from` on made `2A`
-abbrev pub starred : ℕ → ℕ → List ℕ → List ℕ
-starred from k out = sets out from (replicate k 0x2A)
+unfoldable pub stars : ℕ → ℕ → List ℕ → List ℕ
+stars from zero out = out
+stars from (suc k) out = set (stars from k out) (from + k) 0x2A
 
--- the address and the name of so many devices of the payload, the first of them at `at`, made `2A` in `out`
-unfoldable pub maskedFrom : List ℕ → ℕ → ℕ → List ℕ → List ℕ
-maskedFrom payload zero at out = out
-maskedFrom payload (suc n) at out =
-    maskedFrom payload n (deviceEnd payload at) (starred (at + 22) (nameLength payload at) (starred at 17 out))
+-- the address and the name of the device that begins at `at` made `2A` in `out`
+abbrev pub maskedDevice : List ℕ → ℕ → List ℕ → List ℕ
+maskedDevice payload at out = stars (at + 22) (nameLength payload at) (stars at 17 out)
+
+-- those of the first n devices
+unfoldable pub maskedFirst : List ℕ → ℕ → List ℕ
+maskedFirst payload zero = payload
+maskedFirst payload (suc n) = maskedDevice payload (startOf payload n) (maskedFirst payload n)
 
 -- "payload with address and name bytes made `2A`"; one that the decoder refuses stays
 abbrev pub maskedBy : Outcome ℕ → List ℕ → List ℕ
 maskedBy (refused n vs) payload = payload
-maskedBy (accepted count) payload = maskedFrom payload count 3 payload
+maskedBy (accepted count) payload = maskedFirst payload count
 
 unfoldable pub maskedOf : List ℕ → List ℕ
 maskedOf payload = maskedBy (pairedOf payload) payload
-
--- what the walk over n devices reaches: the place after them, or the payload's length where that lies behind it
-abbrev pub Reached : List ℕ → ℕ → ℕ → Type 0
-Reached payload n r =
-    ((r ≡ startOf payload n) × (startOf payload n ≤ length payload)) ⊎ ((r ≡ length payload) × (length payload < startOf payload n))

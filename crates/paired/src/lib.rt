@@ -1,6 +1,5 @@
 // The devices that a headset is paired with, their names as text, and the payload with both masked.
 pub mod paired;
-pub mod text;
 
 pub use paired::PairedDevice;
 pub use paired::PairedDevices;

@@ -1,3 +1,0 @@
-pub mod LawsMessage
-pub mod LawsNoise
-pub mod Cases

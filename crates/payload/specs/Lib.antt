@@ -1,4 +1,1 @@
-pub mod Message
-pub mod Battery
-pub mod Noise
 pub mod Setting

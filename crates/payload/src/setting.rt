@@ -22,7 +22,11 @@ pub enum SettingAnswer {
 pub fn decode_general_setting_param(payload: &[u8]) -> SettingAnswer
     ensures { λ r. ⌜ settingTold r ≡ settingOf (now (payload .entry)) ⌝ }
 {
-    if payload.len() != 4 {
+    let len = payload.len();
+    if len < 2 {
+        return SettingAnswer::Refused(Refusal::OtherMessage);
+    }
+    if len != 4 {
         return SettingAnswer::Refused(Refusal::OtherMessage);
     }
     if payload[2] != GS_BOOLEAN_TYPE {

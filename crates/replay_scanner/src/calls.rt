@@ -12,10 +12,7 @@ use scanner::Scanner;
 use scanner::TakeAnswer;
 
 fn of(state: State) -> Scanner {
-    Scanner {
-        limit: state.limit,
-        count: state.count,
-    }
+    scanner::holding(scanner::fresh(state.limit), state.count)
 }
 
 // The state after a call: the count held and the store end its answer.

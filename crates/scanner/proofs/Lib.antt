@@ -1,10 +1,6 @@
-pub mod LawsStore
 pub mod LawsScanner
-pub mod LawsSearch
-pub mod LawsPlace
-pub mod LawsTake
-pub mod LawsSpans
-pub mod LawsCalls
+pub mod LawsFinding
+pub mod LawsTaking
+pub mod LawsSkipping
 pub mod Cases
 pub mod Walk
-pub mod LawsSkip

@@ -1,6 +1,4 @@
-pub mod Spans
 pub mod Scanner
-pub mod Search
-pub mod Take
-pub mod Steps
-pub mod Skip
+pub mod Finding
+pub mod Taking
+pub mod Skipping

@@ -1,12 +1,12 @@
 // Push and take where the caller keeps the state: thin over the forms by value.
-use crate::next_raw::TakeAnswer;
-use crate::next_raw::take;
 use crate::scanner::PushAnswer;
 use crate::scanner::Scanner;
 use crate::scanner::push;
+use crate::taking::TakeAnswer;
+use crate::taking::take;
 ghost use mathlib.Core.Path.{_≡_};
 ghost use Rattle.scanner.specs.Scanner.{pushCall, pushTold};
-ghost use Rattle.scanner.specs.Take.{takeCall, takeTold};
+ghost use Rattle.scanner.specs.Taking.{takeCall, takeTold};
 
 impl Scanner {
     pub fn push(&mut self, store: &mut [u8], piece: &[u8]) -> PushAnswer

@@ -1,17 +1,36 @@
 // The state, opening and push.
 use frame::Refusal;
-use frame::writing::wipe_from;
+use frame::wipe_from;
 ghost use mathlib.Core.Path.{_≡_};
 ghost use Prim.Native.Nat.{_+_, _≤_};
 ghost use lib.ListN.{length, take};
 ghost use lib.Seq.{paste};
-ghost use Rattle.scanner.specs.Scanner.{heldOf, openCall, openTold, pushCall, pushTold};
-ghost use Rattle.scanner.specs.Steps.{checkedTold};
+ghost use Rattle.scanner.specs.Scanner.{fresh, holding, heldOf, openCall, openTold, pushCall, pushTold, checkedTold};
 
 #[repr(C)]
 pub struct Scanner {
     pub limit: usize,
     pub count: usize,
+}
+
+// Nothing held.
+pub fn fresh(limit: usize) -> Scanner
+    ensures { λ r. ⌜ r ≡ fresh limit ⌝ }
+{
+    Scanner {
+        limit: limit,
+        count: 0,
+    }
+}
+
+// Another count held.
+pub fn holding(scanner: Scanner, count: usize) -> Scanner
+    ensures { λ r. ⌜ r ≡ holding scanner count ⌝ }
+{
+    Scanner {
+        limit: scanner.limit,
+        count: count,
+    }
 }
 
 pub const LEAST_LIMIT: usize = 9;
@@ -24,7 +43,7 @@ pub enum Checked {
 }
 
 // What every call tries first.
-pub(crate) fn check(scanner: Scanner, store: &[u8]) -> Checked
+pub fn check(scanner: Scanner, store: &[u8]) -> Checked
     ensures { λ r. ⌜ checkedTold r (take (scanner .count) (now (store .entry))) ≡ heldOf scanner (now (store .entry)) ⌝ }
 {
     let limit = scanner.limit;
@@ -59,20 +78,17 @@ pub fn open(limit: usize, store: &mut [u8]) -> Opened
     ensures { λ r. ⌜ r .scanner ≡ openCall limit (now (store .entry)) .scanner ⌝ }
     ensures { λ _. ⌜ now (store .exit) ≡ openCall limit (now (store .entry)) .store ⌝ }
 {
-    let fresh = Scanner {
-        limit: limit,
-        count: 0,
-    };
-    match check(fresh, store) {
+    let scanner = fresh(limit);
+    match check(scanner, store) {
         Checked::Refused(r) => Opened {
             answer: OpenAnswer::Refused(r),
-            scanner: fresh,
+            scanner: scanner,
         },
         Checked::Fine => {
             wipe_from(store, 0);
             Opened {
                 answer: OpenAnswer::Open,
-                scanner: fresh,
+                scanner: scanner,
             }
         }
     }
@@ -118,13 +134,9 @@ pub fn push(scanner: Scanner, store: &mut [u8], piece: &[u8]) -> Pushed
                 };
             }
             copy_at(store, count, piece);
-            let next = Scanner {
-                limit: scanner.limit,
-                count: count + piece.len(),
-            };
             Pushed {
                 answer: PushAnswer::Stored,
-                scanner: next,
+                scanner: holding(scanner, count + piece.len()),
             }
         }
     }

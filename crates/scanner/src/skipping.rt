@@ -1,12 +1,12 @@
 // Several spans may go by one move: a caller that has read them where they stand skips them together.
-use crate::next_raw::keep;
 use crate::scanner::Checked;
 use crate::scanner::Scanner;
 use crate::scanner::check;
+use crate::scanner::holding;
 use frame::Refusal;
-use frame::writing::wipe_from;
+use held::let_go;
 ghost use mathlib.Core.Path.{_≡_};
-ghost use Rattle.scanner.specs.Skip.{skipCall, skipTold};
+ghost use Rattle.scanner.specs.Skipping.{skipCall, skipTold};
 
 pub enum SkipAnswer {
     Gone,
@@ -30,26 +30,10 @@ pub fn skip(scanner: Scanner, store: &mut [u8], n: usize) -> Skipped
             scanner: scanner,
         },
         Checked::Fine => {
-            let count = scanner.count;
-            if count < n {
-                wipe_from(store, 0);
-                let fresh = Scanner {
-                    limit: scanner.limit,
-                    count: 0,
-                };
-                return Skipped {
-                    answer: SkipAnswer::Gone,
-                    scanner: fresh,
-                };
-            }
-            keep(store, n, count);
-            let next = Scanner {
-                limit: scanner.limit,
-                count: count - n,
-            };
+            let kept = let_go(store, scanner.count, n);
             Skipped {
                 answer: SkipAnswer::Gone,
-                scanner: next,
+                scanner: holding(scanner, kept),
             }
         }
     }

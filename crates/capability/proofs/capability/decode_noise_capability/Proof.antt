@@ -1,44 +1,33 @@
-use Rattle.capability.proofs.LawsCapability.{other-kind, no-count, other-length, ranges-follow}
-use borrow.Author.Tests.{not-true, not-false}
-use Prim.Native.Nat.{_-_}
+use Rattle.reading.proofs.LawsReading.{read-short, read-unserved, read-uncounted, read-counted}
+use Rattle.capability.proofs.LawsCapability.{reports}
+use Rattle.capability.specs.Capability.{capabilityOf, capabilityKind}
+use borrow.Author.Tests.{eq-eqb, ne-eqb, not-true, not-false}
 use mathlib.Core.Path.{sym, _∙_}
 use native.Mathlib.Omega.{arith}
 use borrow.Author.Needs.{needs}
 use Rattle.capability.proofs.capability.decode_noise_capability.Statement.{statement}
 use Rattle.capability.proofs.capability.decode_noise_capability.Tie as tie
 
-returns : tie.Need-returns
-returns c = rw (other-length (c .before .before .before .args .payload .now) (omega arith)) (c .other-message .ensures .told, c .other-message .ensures .report)
-
-returns-2 : tie.Need-returns-2
-returns-2 c = rw (other-kind (c .before .before .before .before .before .before .args .payload .now) (sym (c .before .before .has-ranges .ensures) ∙ not-true _ (c .before .if2 .taken))) (c .other-message2 .ensures .told, c .other-message2 .ensures .report)
-
-returns-3 : tie.Need-returns-3
-returns-3 c = rw (no-count (c .before .before .before .before .before .before .before .before .args .payload .now) (c .before .if3 .taken)) (c .other-message3 .ensures .told, c .other-message3 .ensures .report)
-
-returns-4 : tie.Need-returns-4
-returns-4 c = rw (other-length (c .before .before .before .before .before .before .before .before .before .args .payload .now) (omega arith)) (c .other-message4 .ensures .told, c .other-message4 .ensures .report)
-
-returns-5 : tie.Need-returns-5
-returns-5 c = rw (ranges-follow (c .before .before .before .before .before .before .before .before .before .args .payload .now) (sym (c .before .before .before .before .before .has-ranges .ensures) ∙ not-false _ (c .before .before .before .before .if2 .left)) (c .before .before .if3 .left) (omega arith)) (c .ranges-of .ensures .told, c .ranges-of .ensures .report)
-
 pub decode-noise-capability-spec : {M : Type 1} → statement M
+unfolding capabilityOf
 decode-noise-capability-spec =
     tie.close
     (tie.spec
     (λ c κs. search needs)
-    returns
+    (λ c. reports (c .refuse .ensures) (read-short _ _ _ _ (c .before .if1 .taken)))
     (λ c. search needs)
     (λ c κs. search needs)
     (λ c κs. search needs)
-    returns-2
+    (λ c. reports (c .refuse2 .ensures) (read-unserved capabilityKind _ _ (c .before .before .before .before .before .before .args .payload .now) (omega arith) (sym (c .before .before .has-ranges .ensures) ∙ not-true _ (c .before .if2 .taken))))
+    (λ c κs. search needs)
+    (λ c. reports (c .refuse3 .ensures) (read-uncounted capabilityKind 2 4 _ (c .before .before .before .before .before .before .before .args .payload .now) (omega arith) (sym (c .before .before .before .has-ranges .ensures) ∙ not-false _ (c .before .before .if2 .left)) (omega arith)))
+    (λ c. search needs)
+    (λ c. omega (arith, c .shared-slice-known3 .given 2))
     (λ c. search needs)
     (λ c. omega (arith, c .shared-slice-known3 .given 2))
     (λ c κs. search needs)
-    returns-3
-    (λ c. search needs)
-    (λ c. omega (arith, c .before .shared-slice-known3 .given 2))
+    (λ c. reports (c .refuse4 .ensures) (read-uncounted capabilityKind 2 4 _ (c .before .before .before .before .before .before .before .before .before .args .payload .now) (omega arith) (sym (c .before .before .before .before .before .has-ranges .ensures) ∙ not-false _ (c .before .before .before .before .if2 .left)) (omega arith)))
     (λ c κs. search needs)
-    returns-4
+    (λ c. reports (c .refuse5 .ensures) (rw (read-counted capabilityKind 2 4 _ (c .before .before .before .before .before .before .before .before .before .before .args .payload .now) (omega arith) (sym (c .before .before .before .before .before .before .has-ranges .ensures) ∙ not-false _ (c .before .before .before .before .before .if2 .left)) (omega arith), eq-eqb _ 0 (c .before .if5 .taken))))
     (λ c κs. search needs)
-    returns-5)
+    (λ c. reports (c .ranges-of .ensures) (rw (read-counted capabilityKind 2 4 _ (c .before .before .before .before .before .before .before .before .before .before .args .payload .now) (omega arith) (sym (c .before .before .before .before .before .before .has-ranges .ensures) ∙ not-false _ (c .before .before .before .before .before .if2 .left)) (omega arith), ne-eqb _ 0 (c .before .if5 .left)))))

@@ -1,12 +1,8 @@
 use mathlib.Core.Bool.{and-false}
 use borrow.Author.Tests.{le-leb, lt-leb, ne-eqb}
-use Prim.Native.Nat.{_-_}
 use native.Mathlib.Omega.{arith}
 use Rattle.capability.proofs.capability.has_ranges.Statement.{statement}
 use Rattle.capability.proofs.capability.has_ranges.Tie as tie
-
-returns-4 : tie.Need-returns-4
-returns-4 c = simp (lt-leb (c .before .before .before .args .kind) 0x19 (omega arith), ne-eqb _ 0x22 (c .before .before .match .rest .1), and-false)
 
 pub has-ranges-spec : {M : Type 1} → statement M
 has-ranges-spec = tie.close
@@ -14,4 +10,4 @@ has-ranges-spec = tie.close
     (λ c. rw (c .match .keys1))
     (λ c. simp (le-leb 0x13 _ (c .before .if1 .left), le-leb (c .before .before .before .args .kind) 0x19 (omega arith)))
     (λ c. simp (lt-leb 0x13 _ (c .if1 .taken), ne-eqb _ 0x22 (c .before .match .rest .1)))
-    returns-4)
+    (λ c. simp (lt-leb (c .before .before .before .args .kind) 0x19 (omega arith), ne-eqb _ 0x22 (c .before .before .match .rest .1), and-false)))

@@ -1,6 +1,6 @@
 use borrow.Author.Needs.{needs}
-use Rattle.ffi.specs.Told.{only}
-use Rattle.ffi.proofs.LawsTold.{passed}
+use Rattle.telling.specs.Told.{only}
+use Rattle.telling.proofs.LawsTold.{passed}
 use Rattle.ffi.proofs.frames.mdr_ack.Statement.{statement}
 use Rattle.ffi.proofs.frames.mdr_ack.Tie as tie
 

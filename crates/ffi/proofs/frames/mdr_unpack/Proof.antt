@@ -1,8 +1,8 @@
 use mathlib.Core.Path.{ap, sym, _∙_}
 use borrow.Author.Needs.{needs}
-use Rattle.ffi.proofs.LawsTold.{taken, turned}
+use Rattle.telling.proofs.LawsTold.{taken, turned}
 use Rattle.ffi.specs.Numbers.{headerNumbers}
-use Rattle.frame.specs.Framing.{unpackedTold}
+use Rattle.framing.specs.Framing.{unpackedTold}
 use Rattle.ffi.proofs.frames.mdr_unpack.Statement.{statement}
 use Rattle.ffi.proofs.frames.mdr_unpack.Tie as tie
 

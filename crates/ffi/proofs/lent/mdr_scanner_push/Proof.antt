@@ -16,7 +16,7 @@ use denote.Triple.Walked.{gave-ref, goes-gave-ref}
 use Rattle.scanner.specs.declared.scanner.Scanner.{Scanner}
 use Rattle.scanner.specs.declared.scanner.PushAnswer.{PushAnswer}
 use Rattle.scanner.specs.Scanner.{pushCall, pushTold}
-use Rattle.ffi.specs.Told.{statusOf}
+use Rattle.telling.specs.Told.{statusOf}
 use Rattle.scanner.proofs.scanner.Scanner as T
 use Rattle.scanner.proofs.scanner.PushAnswer as P
 use Rattle.scanner.proofs.scanner.PushAnswer.Laws as P′

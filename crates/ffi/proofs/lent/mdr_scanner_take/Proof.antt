@@ -14,12 +14,12 @@ use denote.Steps.{peeks, heard}
 use denote.Enum.Laws as EL
 use denote.Triple.Walked.{gave-ref, goes-gave-ref}
 use Rattle.scanner.specs.declared.scanner.Scanner.{Scanner}
-use Rattle.scanner.specs.declared.next_raw.TakeAnswer.{TakeAnswer}
-use Rattle.scanner.specs.Take.{takeCall, takeTold}
+use Rattle.scanner.specs.declared.taking.TakeAnswer.{TakeAnswer}
+use Rattle.scanner.specs.Taking.{takeCall, takeTold}
 use Rattle.ffi.specs.Lent.{spanNumber}
 use Rattle.scanner.proofs.scanner.Scanner as T
-use Rattle.scanner.proofs.next_raw.TakeAnswer as P
-use Rattle.scanner.proofs.next_raw.TakeAnswer.Laws as P′
+use Rattle.scanner.proofs.taking.TakeAnswer as P
+use Rattle.scanner.proofs.taking.TakeAnswer.Laws as P′
 use Rattle.scanner.proofs.scanner.Scanner.take as core
 use Rattle.scanner.proofs.scanner.Scanner.take.Symbol as core-def
 use Rattle.scanner.proofs.scanner.Scanner.take.Symbol.{name as #core}

@@ -36,19 +36,19 @@ use denote.Triple.Table.{entered, cited}
 use denote.Triple.Walked.{says, Stays, gave-slice, stay-dropped, walkOf, goes-gave-slice, goes-dropped, ends-at, walked, walk-meets}
 use denote.Exit.{yes}
 use Rattle.scanner.proofs.Walk.{gone}
-use Rattle.lists.proofs.Walk.{says2}
-use Rattle.lists.specs.declared.support.Table.{Table}
-use Rattle.lists.specs.declared.support.SupportFunction.{SupportFunction}
-use Rattle.lists.specs.declared.support.SupportAnswer.{SupportAnswer}
-use Rattle.lists.specs.Support.{supportTold, supportCall, SupportList}
-use Rattle.frame.specs.Outcome.{Outcome}
+use Rattle.support.proofs.Walk.{says2}
+use Rattle.support.specs.declared.support.Table.{Table}
+use Rattle.support.specs.declared.support.SupportFunction.{SupportFunction}
+use Rattle.support.specs.declared.support.SupportAnswer.{SupportAnswer}
+use Rattle.support.specs.Support.{supportTold, supportCall, SupportList}
+use Rattle.base.specs.Outcome.{Outcome}
 use Rattle.ffi.specs.Lent.{countNumber, tableOf, Counted}
 use Rattle.ffi.proofs.LawsLent.{counted}
-use Rattle.lists.proofs.support.SupportFunction as T
-use Rattle.lists.proofs.support.SupportAnswer as S
-use Rattle.lists.proofs.support.SupportAnswer.Laws as S′
-use Rattle.lists.proofs.support.Table as B
-use Rattle.lists.proofs.support.Table.Laws as B′
+use Rattle.support.proofs.support.SupportFunction as T
+use Rattle.support.proofs.support.SupportAnswer as S
+use Rattle.support.proofs.support.SupportAnswer.Laws as S′
+use Rattle.support.proofs.support.Table as B
+use Rattle.support.proofs.support.Table.Laws as B′
 use Rattle.lists.proofs.decode_support_functions as core
 use Rattle.lists.proofs.decode_support_functions.Symbol as core-def
 use Rattle.lists.proofs.decode_support_functions.Symbol.{name as #core}

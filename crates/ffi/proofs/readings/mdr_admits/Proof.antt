@@ -2,7 +2,7 @@ use mathlib.Core.Path.{ap, _∙_}
 use borrow.Author.Needs.{needs}
 use mir.Syntax.{w32}
 use mir.Facts.{toZ-ofZ}
-use Rattle.capability.specs.Range.{admitsOf}
+use Rattle.range.specs.Range.{admitsOf}
 use Rattle.ffi.proofs.readings.mdr_admits.Statement.{statement}
 use Rattle.ffi.proofs.readings.mdr_admits.Tie as tie
 

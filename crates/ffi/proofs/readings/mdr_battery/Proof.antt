@@ -2,10 +2,10 @@ use Prim.Native.Nat.{ℕ, _-_}
 use mathlib.Core.Path.{ap, sym, _∙_}
 use mathlib.Core.List.{List}
 use borrow.Author.Needs.{needs}
-use Rattle.ffi.specs.Told.{told}
+use Rattle.telling.specs.Told.{told}
 use Rattle.ffi.specs.Numbers.{batteryNumbers}
-use Rattle.ffi.proofs.LawsTold.{taken, turned}
-use Rattle.payload.specs.Battery.{batteryTold}
+use Rattle.telling.proofs.LawsTold.{taken, turned}
+use Rattle.battery.specs.Battery.{batteryTold}
 use Rattle.ffi.proofs.readings.mdr_battery.Statement.{statement}
 use Rattle.ffi.proofs.readings.mdr_battery.Tie as tie
 

@@ -1,8 +1,8 @@
 use mathlib.Core.Path.{ap, sym, _∙_}
 use borrow.Author.Needs.{needs}
 use Rattle.ffi.specs.Numbers.{equalizerNumbers}
-use Rattle.ffi.proofs.LawsTold.{taken, turned}
-use Rattle.lists.specs.Equalizer.{eqTold}
+use Rattle.telling.proofs.LawsTold.{taken, turned}
+use Rattle.equalizer.specs.Equalizer.{eqTold}
 use Rattle.ffi.proofs.readings.mdr_equalizer.Statement.{statement}
 use Rattle.ffi.proofs.readings.mdr_equalizer.Tie as tie
 

@@ -1,8 +1,8 @@
 use mathlib.Core.Path.{ap, sym, _∙_}
 use borrow.Author.Needs.{needs}
 use Rattle.ffi.specs.Numbers.{messageNumbers}
-use Rattle.ffi.proofs.LawsTold.{taken, turned}
-use Rattle.payload.specs.Message.{splitTold}
+use Rattle.telling.proofs.LawsTold.{taken, turned}
+use Rattle.reading.specs.Message.{splitTold}
 use Rattle.ffi.proofs.readings.mdr_message.Statement.{statement}
 use Rattle.ffi.proofs.readings.mdr_message.Tie as tie
 

@@ -2,10 +2,10 @@ use Prim.Native.Nat.{ℕ, _-_}
 use mathlib.Core.Path.{ap, sym, _∙_}
 use mathlib.Core.List.{List}
 use borrow.Author.Needs.{needs}
-use Rattle.ffi.specs.Told.{told}
+use Rattle.telling.specs.Told.{told}
 use Rattle.ffi.specs.Numbers.{noiseNumbers}
-use Rattle.ffi.proofs.LawsTold.{taken, turned}
-use Rattle.payload.specs.Noise.{noiseTold}
+use Rattle.telling.proofs.LawsTold.{taken, turned}
+use Rattle.noise.specs.Noise.{noiseTold}
 use Rattle.ffi.proofs.readings.mdr_noise.Statement.{statement}
 use Rattle.ffi.proofs.readings.mdr_noise.Tie as tie
 

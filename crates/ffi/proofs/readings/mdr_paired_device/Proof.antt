@@ -2,9 +2,9 @@ use Prim.Native.Nat.{ℕ, _-_}
 use mathlib.Core.Path.{ap, sym, _∙_}
 use mathlib.Core.List.{List}
 use borrow.Author.Needs.{needs}
-use Rattle.ffi.specs.Told.{told}
+use Rattle.telling.specs.Told.{told}
 use Rattle.ffi.specs.Numbers.{deviceNumbers}
-use Rattle.ffi.proofs.LawsTold.{taken, turned}
+use Rattle.telling.proofs.LawsTold.{taken, turned}
 use Rattle.paired.specs.Paired.{lookupTold}
 use Rattle.ffi.proofs.readings.mdr_paired_device.Statement.{statement}
 use Rattle.ffi.proofs.readings.mdr_paired_device.Tie as tie

@@ -1,7 +1,7 @@
 use mathlib.Core.Path.{ap, sym, _∙_}
 use borrow.Author.Needs.{needs}
-use Rattle.ffi.specs.Told.{only}
-use Rattle.ffi.proofs.LawsTold.{taken, turned}
+use Rattle.telling.specs.Told.{only}
+use Rattle.telling.proofs.LawsTold.{taken, turned}
 use Rattle.paired.specs.Paired.{pairedTold}
 use Rattle.ffi.proofs.readings.mdr_paired_devices.Statement.{statement}
 use Rattle.ffi.proofs.readings.mdr_paired_devices.Tie as tie

@@ -1,8 +1,8 @@
 use mathlib.Core.Path.{ap, sym, _∙_}
 use borrow.Author.Needs.{needs}
-use Rattle.ffi.specs.Told.{only}
-use Rattle.ffi.proofs.LawsTold.{taken, turned}
-use Rattle.lists.specs.Support.{checkTold}
+use Rattle.telling.specs.Told.{only}
+use Rattle.telling.proofs.LawsTold.{taken, turned}
+use Rattle.support.specs.Support.{checkTold}
 use Rattle.ffi.proofs.readings.mdr_support_check.Statement.{statement}
 use Rattle.ffi.proofs.readings.mdr_support_check.Tie as tie
 

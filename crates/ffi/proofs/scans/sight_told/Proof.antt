@@ -1,6 +1,6 @@
 use mathlib.Core.Path.{refl}
 use borrow.Author.Needs.{needs}
-use Rattle.ffi.specs.Told.{told}
+use Rattle.telling.specs.Told.{told}
 use Rattle.ffi.proofs.scans.sight_told.Statement.{statement}
 use Rattle.ffi.proofs.scans.sight_told.Tie as tie
 

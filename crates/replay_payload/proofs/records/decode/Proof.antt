@@ -51,16 +51,16 @@ use denote.Triple.Clauses.{ensured, lasts}
 use denote.Triple.Table.{entered, cited}
 use denote.Triple.Walked.{needs, Stays, stay-dropped, walkOf, goes-dropped, ends-at, walked, walk-meets}
 use denote.Exit.{yes}
-use Rattle.lists.specs.declared.support.Table.{Table}
-use Rattle.lists.specs.declared.support.SupportFunction.{SupportFunction}
-use Rattle.lists.specs.declared.support.SupportAnswer.{SupportAnswer}
-use Rattle.lists.specs.Support.{supportTold, supportCall}
-use Rattle.lists.proofs.support.SupportFunction as T
-use Rattle.lists.proofs.support.SupportFunction.Laws as T′
-use Rattle.lists.proofs.support.SupportAnswer as S
-use Rattle.lists.proofs.support.SupportAnswer.Laws as S′
-use Rattle.lists.proofs.support.Table as B
-use Rattle.lists.proofs.support.Table.Laws as B′
+use Rattle.support.specs.declared.support.Table.{Table}
+use Rattle.support.specs.declared.support.SupportFunction.{SupportFunction}
+use Rattle.support.specs.declared.support.SupportAnswer.{SupportAnswer}
+use Rattle.support.specs.Support.{supportTold, supportCall}
+use Rattle.support.proofs.support.SupportFunction as T
+use Rattle.support.proofs.support.SupportFunction.Laws as T′
+use Rattle.support.proofs.support.SupportAnswer as S
+use Rattle.support.proofs.support.SupportAnswer.Laws as S′
+use Rattle.support.proofs.support.Table as B
+use Rattle.support.proofs.support.Table.Laws as B′
 use Rattle.lists.proofs.decode_support_functions as lent
 use Rattle.lists.proofs.decode_support_functions.Symbol as lent-def
 use Rattle.lists.proofs.decode_support_functions.Symbol.{name as #lent}

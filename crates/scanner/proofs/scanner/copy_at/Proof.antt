@@ -4,7 +4,7 @@ use mathlib.Core.Path.{_≡_, refl, ap, _∙_}
 use native.Mathlib.Omega.{arith}
 use lib.ListN.{length, length-set}
 use lib.Seq.{paste, paste-zero}
-use Rattle.scanner.proofs.LawsStore.{copy-step}
+use Rattle.scanner.proofs.LawsScanner.{copy-step}
 use Rattle.scanner.proofs.scanner.copy_at.Statement.{statement}
 use Rattle.scanner.proofs.scanner.copy_at.Tie as tie
 

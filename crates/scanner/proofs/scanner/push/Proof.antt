@@ -1,4 +1,3 @@
-use Prim.Native.Nat.{_-_}
 use mathlib.Core.Path.{refl}
 use native.Mathlib.Omega.{arith}
 use lib.Seq.{take-length}
@@ -7,9 +6,6 @@ use Rattle.scanner.specs.Scanner.{pushCall}
 use Rattle.scanner.proofs.LawsScanner.{fine, passed, admitted, push-full, push-fits}
 use Rattle.scanner.proofs.scanner.push.Statement.{statement}
 use Rattle.scanner.proofs.scanner.push.Tie as tie
-
-enum-told : tie.Need-enum-told
-enum-told c = search needs
 
 sub-if1 : tie.Need-sub-if1
 sub-if1 c =
@@ -33,11 +29,11 @@ copy-at-requires c κs =
 
 returns-3 : tie.Need-returns-3
 returns-3 c =
-    let k = c .before .before .before .before .before .before .before in
+    let k = c .before .before .before .before .before .before .before .before in
     let d = k .before .before .before .before .args in
-    let e = passed (d .scanner) (d .store .now) _ _ (k .check .ensures) (c .before .before .before .before .before .enum-told .given .1) in
+    let e = passed (d .scanner) (d .store .now) _ _ (k .check .ensures) (c .before .before .before .before .before .before .enum-told .given .1) in
     let f = admitted (d .scanner) (d .store .now) _ e .fits in
-    rw (push-fits (d .scanner) (d .store .now) _ (d .piece .now) e (omega arith)) (refl, (refl, rw take-length at (c .before .before .copy-at .ensures)))
+    rw (push-fits (d .scanner) (d .store .now) _ (d .piece .now) e (omega arith)) (refl, (c .holding .ensures, rw take-length at (c .before .before .before .copy-at .ensures)))
 
 pub push-spec : {M : Type 1} → statement M
 unfolding pushCall
@@ -46,12 +42,13 @@ push-spec =
     (tie.spec
     (λ c κs. search needs)
     (λ c. search needs)
-    enum-told
+    (λ c. search needs)
     sub-if1
     (λ c. search needs)
     returns
     copy-at-requires
     (λ c. search needs)
+    (λ c κs. search needs)
     (λ c. search needs)
     (λ c. simp (← c .before .before .before .check .ensures, c .before .r .given .1) (refl, (refl, refl)))
     (λ c. search needs)

@@ -6,16 +6,16 @@ use Rattle.scanner.proofs.Walk.{owns, mem, Is, shows, pureI, RefT, MutR
 use Rattle.scanner.proofs.Walk.{says3, emp, via, fst∗, u8, Stays, stay-ref, gave-slice, walkOf, goes-ref, goes-gave-slice, ends-at, walked, walk-meets, plain}
 use denote.Struct.Laws as LL
 use Rattle.scanner.specs.declared.scanner.Scanner.{Scanner}
-use Rattle.scanner.specs.declared.next_raw.Taken.{Taken}
-use Rattle.scanner.specs.Take.{takeCall, takeTold}
+use Rattle.scanner.specs.declared.taking.Taken.{Taken}
+use Rattle.scanner.specs.Taking.{takeCall, takeTold}
 use Rattle.scanner.proofs.scanner.Scanner as T
 use Rattle.scanner.proofs.scanner.Scanner.Laws as T′
-use Rattle.scanner.proofs.next_raw.Taken as P
-use Rattle.scanner.proofs.next_raw.Taken.Laws as P′
-use Rattle.scanner.proofs.next_raw.take as core
-use Rattle.scanner.proofs.next_raw.take.Symbol as core-def
-use Rattle.scanner.proofs.next_raw.take.Symbol.{name as #core}
-use Rattle.scanner.proofs.next_raw.take.Met as core-thm
+use Rattle.scanner.proofs.taking.Taken as P
+use Rattle.scanner.proofs.taking.Taken.Laws as P′
+use Rattle.scanner.proofs.taking.take as core
+use Rattle.scanner.proofs.taking.take.Symbol as core-def
+use Rattle.scanner.proofs.taking.take.Symbol.{name as #core}
+use Rattle.scanner.proofs.taking.take.Met as core-thm
 use Rattle.scanner.proofs.scanner.Scanner.take.Key.{name as #thin}
 use Rattle.scanner.proofs.scanner.Scanner.take as thin
 use Rattle.scanner.proofs.scanner.Scanner.take.Statement as stated
@@ -140,4 +140,4 @@ take-spec 𝓤 H 𝓜 𝓖 𝓡 =
     entered 𝓤 H (tripleOf 𝓤 H (𝓖 .A) thin.signature (thin.spec 𝓤 H (𝓖 .A) (𝓜 .mem) (𝓡 .run)))
     (tables 𝓤 H 𝓜 𝓡 code.env .C) (tables 𝓤 H 𝓜 𝓡 code.env .Λ) #thin code.function (code.unfolded 𝓤 H 𝓜 𝓡)
     (take-meets 𝓤 H (𝓖 .A) (givenOf 𝓤 H 𝓜 𝓖) (𝓜 .mem) (𝓡 .run) (tablesOf 𝓤 H 𝓜 (tables 𝓤 H 𝓜 𝓡 code.env))
-    (cited 𝓤 H (Core 𝓤 H (𝓖 .A) (𝓜 .mem) (𝓡 .run)) 𝓜 𝓡 code.env #core core-def.routine code.calls-scanner·next-raw·take (core-thm.met 𝓤 H 𝓜 𝓖 𝓡)))
+    (cited 𝓤 H (Core 𝓤 H (𝓖 .A) (𝓜 .mem) (𝓡 .run)) 𝓜 𝓡 code.env #core core-def.routine code.calls-scanner·taking·take (core-thm.met 𝓤 H 𝓜 𝓖 𝓡)))

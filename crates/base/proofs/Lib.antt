@@ -1,0 +1,4 @@
+pub mod LawsTests
+pub mod LawsSum
+pub mod LawsWriting
+pub mod LawsDataType

@@ -1,0 +1,9 @@
+// The battery levels that a message reports.
+pub mod battery;
+
+pub use battery::BatteryAnswer;
+pub use battery::BatteryReport;
+pub use battery::Cell;
+pub use battery::Charging;
+pub use battery::OptionCell;
+pub use battery::decode_battery;

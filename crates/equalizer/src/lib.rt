@@ -1,0 +1,8 @@
+// An equalizer's steps, and what they mean.
+pub mod equalizer;
+
+pub use equalizer::EqAnswer;
+pub use equalizer::EqShape;
+pub use equalizer::decode_equalizer;
+pub use equalizer::equalizer_steps;
+pub use equalizer::gain;

@@ -1,0 +1,3 @@
+pub mod LawsEscaping
+pub mod LawsUnescaping
+pub mod LawsFree

@@ -1,8 +1,0 @@
-pub mod Outcome
-pub mod Refusal
-pub mod DataType
-pub mod Sum
-pub mod Writing
-pub mod Stored
-pub mod Escaping
-pub mod Framing

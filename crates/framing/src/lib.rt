@@ -1,0 +1,7 @@
+// Whole frames: pack, unpack and ack.
+pub mod framing;
+
+pub use framing::Unpacked;
+pub use framing::ack;
+pub use framing::pack;
+pub use framing::unpack;

@@ -1,4 +1,0 @@
-pub mod LawsReading
-pub mod LawsEqualizer
-pub mod LawsSupport
-pub mod Walk

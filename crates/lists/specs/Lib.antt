@@ -1,2 +1,0 @@
-pub mod Equalizer
-pub mod Support

@@ -1,0 +1,26 @@
+-- 01's marked case of this reading, computed.
+use mathlib.Core.Path.{_≡_, refl}
+use mathlib.Core.Bool.{true}
+use mathlib.Core.List.{[], _∷_}
+use Rattle.base.specs.Outcome.{accepted}
+use Rattle.reading.specs.Items.{walk}
+use Rattle.reading.specs.Reading.{readingOf}
+use Rattle.reading.specs.declared.message.OptionByte.the-variants.{Byte, NoByte}
+use Rattle.noise.specs.Noise.{noiseLayout, noiseOf}
+use Rattle.noise.specs.declared.noise.NoiseMode.the-variants.{Off}
+use Rattle.noise.specs.declared.noise.OptionFlag.the-variants.{Flag, NoFlag}
+
+-- (i): Off, though the rest says cancelling at level 5
+pub case-i :
+    noiseOf (0x67 ∷ 0x17 ∷ 0x01 ∷ 0x00 ∷ 0x00 ∷ 0x01 ∷ 0x05 ∷ []) ≡
+    accepted (record {
+      mode = Off;
+      «mode_byte» = Byte 0x00;
+      «ambient_level» = Byte 0x05;
+      «focus_on_voice» = Flag true;
+      settled = true;
+      adaptive = NoFlag;
+      «adaptive_sensitivity» = NoByte;
+    })
+unfolding noiseOf noiseLayout readingOf walk
+case-i = refl

@@ -1,0 +1,6 @@
+// Plans: which decoder reads a payload.
+pub mod plan;
+
+pub use plan::entry;
+pub use plan::house_plan;
+pub use plan::plan_fine;

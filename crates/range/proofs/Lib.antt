@@ -1,0 +1,2 @@
+pub mod LawsRange
+pub mod CasesRange

@@ -1,0 +1,2 @@
+pub mod LawsItems
+pub mod LawsReading

@@ -1,0 +1,2 @@
+pub mod LawsSupport
+pub mod Walk

@@ -1,0 +1,53 @@
+// What every call tells: a status, and numbers at the front of `values`, as many as fit.
+use frame::Refusal;
+use scanner::Scanner;
+use scanner::fresh;
+use scanner::holding;
+ghost use mathlib.Core.Path.{_≡_};
+ghost use Rattle.base.specs.Refusal.{listed, numberOf};
+ghost use Rattle.telling.specs.Told.{told, state};
+
+pub fn tell(numbers: &[u64], values: &mut [u64])
+    ensures { λ _. ⌜ now (values .exit) ≡ told (now (numbers .entry)) (now (values .entry)) ⌝ }
+{
+    let mut i = 0;
+    while i < numbers.len() {
+        if values.len() <= i {
+            return;
+        }
+        values[i] = numbers[i];
+        i += 1;
+    }
+}
+
+// The refusal's number, and its values told.
+pub fn refuse(r: Refusal, values: &mut [u64]) -> u8
+    ensures { λ s. ⌜ s ≡ numberOf r ⌝ }
+    ensures { λ _. ⌜ now (values .exit) ≡ told (listed r .1) (now (values .entry)) ⌝ }
+{
+    match r {
+        Refusal::BadEscapee(b) => {
+            let numbers = [b as u64];
+            tell(&numbers, values);
+            r.number()
+        }
+        Refusal::BadChecksum { declared, computed } => {
+            let numbers = [declared as u64, computed as u64];
+            tell(&numbers, values);
+            r.number()
+        }
+        Refusal::LengthMismatch { declared, actual } => {
+            let numbers = [declared as u64, actual as u64];
+            tell(&numbers, values);
+            r.number()
+        }
+        _ => r.number(),
+    }
+}
+
+// The scanner's state from the two numbers that it is handed over as.
+pub fn state(limit: usize, count: usize) -> Scanner
+    ensures { λ r. ⌜ r ≡ state limit count ⌝ }
+{
+    holding(fresh(limit), count)
+}

@@ -1,0 +1,4 @@
+// Whether bytes are text by RFC 3629.
+pub mod text;
+
+pub use text::is_text;
