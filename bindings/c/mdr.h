@@ -4,11 +4,10 @@
  * overlap anything else that the call is lent. No call keeps a pointer, allocates, or has a state of its own, so calls on different buffers
  * may run at the same time.
  *
- * Most calls return a status: 0 where the call accepts, else the number of the refusal (enum mdr_refusal). Every input is taken; a call that
- * refuses says why.
- *
- * `values` takes the numbers of the answer, from the front on, as many as fit; entries behind them stay as they were. The comment of a call
- * lists its numbers in brackets. A refusal writes the numbers that stand beside its name in enum mdr_refusal, or none.
+ * Every input is taken. A call that can refuse, or whose answer is more than one plain value, returns a status: 0, or the number of the
+ * refusal (enum mdr_refusal). All that it tells goes to `values`, from the front on, as many numbers as fit; entries behind them stay as
+ * they were. The comment of a call lists its numbers in brackets. A refusal tells the numbers that stand beside its name in enum
+ * mdr_refusal, or none. A call whose answer is one plain value that no input refuses returns it.
  *
  * "or 256": an absent byte is 256. "or 2": an absent flag is 2; else 0 is no and 1 is yes.
  */
@@ -70,48 +69,44 @@ uint8_t mdr_pack(uint8_t data_type, uint8_t seq, const uint8_t *payload, size_t 
 /* [length written]. The acknowledgement of a frame that came with the sequence `seq`. Otherwise as mdr_pack. */
 uint8_t mdr_ack(uint8_t seq, uint8_t *out, size_t out_len, uint64_t *values, size_t values_len);
 
-/* [type byte, sequence, payload length]. Reads one whole frame, START and END included. The body comes to stand at the front of `work`, its
- * payload from offset 6 on, and the rest of `work` is zero. Refused by 8 to 11 `work` stays, by 12 to 16 all of it is zero. */
+/* [type byte, sequence, payload length]. Reads one whole frame, START and END included. The body comes to stand at the front of `work`,
+ * its payload from offset 6 on, and the rest of `work` is zero. Refused by 8 to 11 `work` stays, by 12 to 16 all of it is zero. */
 uint8_t mdr_unpack(const uint8_t *frame, size_t frame_len, uint8_t *work, size_t work_len, uint64_t *values, size_t values_len);
 
-/* ---- the scanner, its state as two numbers ----
+/* ---- the scanner ----
  *
- * The caller keeps the limit (9 to 65536), the count of held bytes, and the store, which is longer than the limit. The held bytes are the
- * first of the store. After each call the count is the one that the call told. Refused (1 to 4), nothing changes: keep the count. */
-
-/* [count], which is 0. Fills the store with zeros. */
-uint8_t mdr_open(size_t limit, uint8_t *store, size_t store_len, uint64_t *values, size_t values_len);
-
-/* [count now]. Puts the piece behind the held bytes. */
-uint8_t mdr_push(size_t limit, size_t count, uint8_t *store, size_t store_len, const uint8_t *piece, size_t piece_len, uint64_t *values,
-                 size_t values_len);
-
-/* [1, offset, length] of the first span among the held bytes, markers included, or [0] for none. */
-uint8_t mdr_find(size_t limit, size_t count, const uint8_t *store, size_t store_len, uint64_t *values, size_t values_len);
-
-/* [1 if a span went, else 0; count now]. The first span and what stands before it go; with no span, what cannot become one goes. What
- * stays moves to the front, and every byte of the store behind it becomes zero. */
-uint8_t mdr_take(size_t limit, size_t count, uint8_t *store, size_t store_len, uint64_t *values, size_t values_len);
-
-/* 0 no START among the bytes; 1 a START and no END behind it, [its offset]; 2 both, [offset, length] of the first span. Takes any bytes, so
- * that spans can be read where they stand, one behind the other, and then skipped together. */
-uint8_t mdr_seek(const uint8_t *bytes, size_t bytes_len, uint64_t *values, size_t values_len);
-
-/* [count now]. The first n held bytes go, no more than are held. What stays is left as by mdr_take. */
-uint8_t mdr_skip(size_t limit, size_t count, uint8_t *store, size_t store_len, size_t n, uint64_t *values, size_t values_len);
-
-/* ---- the scanner where the caller keeps the state in a struct ---- */
+ * The caller keeps the state, and a store that is longer than the limit. The held bytes are the first `count` of the store. Each call is
+ * lent both as the call before left them. The state is in the struct alone, so a short `values` loses nothing that the next call needs.
+ * Every call that is lent both tries 1 to 3, and where it refuses leaves both as they were; mdr_open makes the state in any case. */
 
 struct mdr_scanner {
-    size_t limit;
+    size_t limit; /* 9 to 65536 */
     size_t count;
 };
 
-/* A status. The count in `scanner` is brought up to date; refused, nothing changes. */
-uint8_t mdr_scanner_push(struct mdr_scanner *scanner, uint8_t *store, size_t store_len, const uint8_t *piece, size_t piece_len);
+/* The state becomes this limit with nothing held, whatever it was, and the store is filled with zeros. Refused (1, 2), the state becomes
+ * the same, and the store stays. */
+uint8_t mdr_open(struct mdr_scanner *scanner, size_t limit, uint8_t *store, size_t store_len);
 
-/* 0 no span, 255 a span went, else the refusal. The count in `scanner` is brought up to date; refused, nothing changes. */
-uint8_t mdr_scanner_take(struct mdr_scanner *scanner, uint8_t *store, size_t store_len);
+/* Puts the piece behind the held bytes. Refused by 4 where not all of it fits. */
+uint8_t mdr_push(struct mdr_scanner *scanner, uint8_t *store, size_t store_len, const uint8_t *piece, size_t piece_len);
+
+/* [1, offset, length] of the first span among the held bytes, from the first START to the first END behind it, markers included, or [0]
+ * for none. Changes nothing. */
+uint8_t mdr_find(const struct mdr_scanner *scanner, const uint8_t *store, size_t store_len, uint64_t *values, size_t values_len);
+
+/* [1] where a span went, else [0]. The first span and what stands before it go. With no span: where no START is among the held bytes,
+ * all of them go; else those before the first START go, and where from it on more than the limit is held, these go too. So then at most
+ * the limit is held, and one more byte has room, since the store is longer than that. What stays moves to the front, and every byte of
+ * the store behind it becomes zero. */
+uint8_t mdr_take(struct mdr_scanner *scanner, uint8_t *store, size_t store_len, uint64_t *values, size_t values_len);
+
+/* The first n held bytes go, no more than are held. What stays is left as by mdr_take. */
+uint8_t mdr_skip(struct mdr_scanner *scanner, uint8_t *store, size_t store_len, size_t n);
+
+/* [0] no START among the bytes; [1, offset] a START and no END behind it; [2, offset, length] of the first span. Takes any bytes, so
+ * that spans can be read where they stand, one behind the other, and then skipped together. Never refuses: the status is 0. */
+uint8_t mdr_seek(const uint8_t *bytes, size_t bytes_len, uint64_t *values, size_t values_len);
 
 /* ---- readings ----
  *
@@ -152,10 +147,10 @@ struct mdr_support_function {
     uint8_t priority;
 };
 
-/* The count of functions, or 256 and the refusal's number added (19, 20). Writes to the front of `records`; those behind stay. Refused,
- * `records` stays. `table` is 1 for table One, anything else for table Two; it changes nothing in what is read. */
-uint16_t mdr_support_functions(uint8_t table, const uint8_t *payload, size_t payload_len, struct mdr_support_function *records,
-                               size_t records_len);
+/* [count] of functions. Writes them to the front of `records`; those behind stay. Refused (19, 20), `records` stays. `table` is 1 for
+ * table One, anything else for table Two; it changes nothing in what is read. */
+uint8_t mdr_support_functions(uint8_t table, const uint8_t *payload, size_t payload_len, struct mdr_support_function *records,
+                              size_t records_len, uint64_t *values, size_t values_len);
 
 /* [slot, enabled]. */
 uint8_t mdr_general_setting(const uint8_t *payload, size_t payload_len, uint64_t *values, size_t values_len);
@@ -163,8 +158,9 @@ uint8_t mdr_general_setting(const uint8_t *payload, size_t payload_len, uint64_t
 /* Whether the bytes are UTF-8 (RFC 3629). */
 bool mdr_is_text(const uint8_t *bytes, size_t bytes_len);
 
-/* Whether a headset whose levels go from min to max by step takes `level`: 0 no, 1 yes, 22 where the step is 0 and the level lies within. */
-uint8_t mdr_admits(uint8_t min, uint8_t max, uint8_t step, int32_t level);
+/* [1] where a headset whose levels go from min to max by step takes `level`, else [0]. Refused by 22 where the step is 0 and the level
+ * lies within. */
+uint8_t mdr_admits(uint8_t min, uint8_t max, uint8_t step, int32_t level, uint64_t *values, size_t values_len);
 
 /* [1, min, max, step] of the levels that lie from low to high, or [0] for none. Never refuses: the status is 0. */
 uint8_t mdr_within(uint8_t min, uint8_t max, uint8_t step, uint8_t low, uint8_t high, uint64_t *values, size_t values_len);
@@ -188,16 +184,21 @@ void mdr_house_plan(uint8_t plan[MDR_PLAN_LEN]);
 /* Whether a plan has 512 entries, none above 7. */
 bool mdr_plan_fine(const uint8_t *plan, size_t plan_len);
 
-/* [1, the line's length, count now], or [0, 0, count now] for no span. Writes the next span's line to the front of `out`, its newline
+/* [length of the line], 0 where no span is held: a line is never empty. Writes the next span's line to the front of `out`, its newline
  * included, and takes the span; with no span it does what mdr_take does and leaves `out`. All of `work`, which is no shorter than the
- * store, is zero after both. Refused (1, 2, 3, 5, 6), nothing changes; refused by 7, `work` is zero and nothing else changes. */
-uint8_t mdr_line(size_t limit, size_t count, uint8_t *store, size_t store_len, const uint8_t *plan, size_t plan_len, uint8_t *work,
+ * store, is zero after both. Refused (1, 2, 3, 5, 6), nothing changes; refused by 7, `work` is zero and nothing else changes.
+ *
+ * How large an output never refuses: after an accepted mdr_open and any list of pushes and line calls, with a fine plan, a work area as
+ * long as the store and an output of four times the store's length, no line call is refused (`never-refused` in crates/log/proofs/Sizes). */
+uint8_t mdr_line(struct mdr_scanner *scanner, uint8_t *store, size_t store_len, const uint8_t *plan, size_t plan_len, uint8_t *work,
                  size_t work_len, uint8_t *out, size_t out_len, uint64_t *values, size_t values_len);
 
-/* [the lines' length together, count now], told whatever the status is. Does what calls of mdr_line do, one after the other until one writes
- * no line, each lent the output behind the lines before it; the store is moved once. 0: no span is left. 7: the next line has no room behind
- * those written, and its span is kept. Otherwise (1, 2, 3, 5, 6) nothing changes. */
-uint8_t mdr_all_lines(size_t limit, size_t count, uint8_t *store, size_t store_len, const uint8_t *plan, size_t plan_len, uint8_t *work,
+/* [length of the lines together], told whatever the status is. Does what calls of mdr_line do, one after the other until one writes no
+ * line, each lent the output behind the lines before it; the store is moved once. 0: no span is left. 7: the next line has no room behind
+ * those written, and its span is kept. Otherwise (1, 2, 3, 5, 6) nothing changes.
+ *
+ * With the sizes that never refuse mdr_line the first line has room, so a call refused by 7 has written at least one. */
+uint8_t mdr_all_lines(struct mdr_scanner *scanner, uint8_t *store, size_t store_len, const uint8_t *plan, size_t plan_len, uint8_t *work,
                       size_t work_len, uint8_t *out, size_t out_len, uint64_t *values, size_t values_len);
 
 #ifdef __cplusplus

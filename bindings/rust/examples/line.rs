@@ -5,11 +5,11 @@ use std::io::Write;
 
 fn main() -> Result<(), Box<dyn Error>> {
     let mut frame = [0; 64];
-    let len = mdr::pack(0x0C, 0, &[0x23, 0x00, 0x50, 0x01], &mut frame)?;
+    let len = mdr::pack(mdr::DataType::DataMdr, 0, &[0x23, 0x00, 0x50, 0x01], &mut frame)?;
 
     let mut store = vec![0; 12288];
     let mut work = vec![0; 12288];
-    let mut out = vec![0; 49152];
+    let mut out = vec![0; 4 * store.len()];
     let mut scanner = mdr::Scanner::open(8192, &mut store)?;
     let (first, second) = frame[..len].split_at(5);
     scanner.push(&mut store, first)?;

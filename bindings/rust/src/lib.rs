@@ -2,7 +2,10 @@
 
 pub mod sys;
 
+pub use sys::{Scanner, SupportFunction};
+
 /// Why a call refuses, in the order of the refusal list.
+#[non_exhaustive]
 #[derive(Clone, Copy, Debug, PartialEq, Eq)]
 pub enum Refusal {
     LimitOutOfRange,
@@ -27,10 +30,14 @@ pub enum Refusal {
     TooFewRecords,
     NoSuchDevice,
     StepZero,
+    /// a status of a later library, which this crate has no name for
+    Unlisted(u8),
 }
 
 impl Refusal {
+    // A value that was not told reads as 0.
     fn of(status: u8, values: &[u64]) -> Refusal {
+        let value = |i: usize| values.get(i).copied().unwrap_or(0);
         match status {
             1 => Refusal::LimitOutOfRange,
             2 => Refusal::StoreTooShort,
@@ -44,17 +51,17 @@ impl Refusal {
             10 => Refusal::NoEnd,
             11 => Refusal::NoRoom,
             12 => Refusal::TrailingSentry,
-            13 => Refusal::BadEscapee(values[0] as u8),
+            13 => Refusal::BadEscapee(value(0) as u8),
             14 => Refusal::BodyTooShort,
-            15 => Refusal::BadChecksum { declared: values[0] as u8, computed: values[1] as u8 },
-            16 => Refusal::LengthMismatch { declared: values[0] as usize, actual: values[1] as usize },
+            15 => Refusal::BadChecksum { declared: value(0) as u8, computed: value(1) as u8 },
+            16 => Refusal::LengthMismatch { declared: value(0) as usize, actual: value(1) as usize },
             17 => Refusal::PayloadTooLong,
             18 => Refusal::OutputTooShort,
             19 => Refusal::OtherMessage,
             20 => Refusal::TooFewRecords,
             21 => Refusal::NoSuchDevice,
             22 => Refusal::StepZero,
-            other => unreachable!("status {other}"),
+            other => Refusal::Unlisted(other),
         }
     }
 
@@ -83,26 +90,60 @@ impl Refusal {
             Refusal::TooFewRecords => 20,
             Refusal::NoSuchDevice => 21,
             Refusal::StepZero => 22,
+            Refusal::Unlisted(number) => number,
         }
     }
 }
 
 impl std::fmt::Display for Refusal {
     fn fmt(&self, f: &mut std::fmt::Formatter<'_>) -> std::fmt::Result {
-        write!(f, "refused, {}: {:?}", self.number(), self)
+        match *self {
+            Refusal::LimitOutOfRange => write!(f, "the limit is below 9 or above 65536"),
+            Refusal::StoreTooShort => write!(f, "the store is not longer than the limit"),
+            Refusal::HeldBeyondStore => write!(f, "more bytes are held than the store has"),
+            Refusal::StoreFull => write!(f, "the piece does not fit behind the held bytes"),
+            Refusal::BadPlan => write!(f, "the plan does not have 512 entries, or one is above 7"),
+            Refusal::WorkTooShort => write!(f, "the work area is shorter than the store"),
+            Refusal::LineTooLong => write!(f, "the line does not fit the output"),
+            Refusal::TooShort => write!(f, "the frame has fewer than 9 bytes"),
+            Refusal::NoStart => write!(f, "the frame does not begin with the start byte"),
+            Refusal::NoEnd => write!(f, "the frame does not end with the end byte"),
+            Refusal::NoRoom => write!(f, "the work area or output is shorter than what is to be unescaped"),
+            Refusal::TrailingSentry => write!(f, "the escape byte has nothing behind it"),
+            Refusal::BadEscapee(byte) => write!(f, "the escape byte is followed by {byte:02X}"),
+            Refusal::BodyTooShort => write!(f, "the body has fewer than 7 bytes"),
+            Refusal::BadChecksum { declared, computed } => {
+                write!(f, "the frame carries the checksum {declared:02X}, its bytes have {computed:02X}")
+            }
+            Refusal::LengthMismatch { declared, actual } => {
+                write!(f, "the frame declares {declared} payload bytes and has {actual}")
+            }
+            Refusal::PayloadTooLong => write!(f, "the payload is longer than 4294967295 bytes"),
+            Refusal::OutputTooShort => write!(f, "the output is too short"),
+            Refusal::OtherMessage => write!(f, "the payload is not a message of this decoder"),
+            Refusal::TooFewRecords => write!(f, "the list has more functions than there are records"),
+            Refusal::NoSuchDevice => write!(f, "the index is not below the count of devices"),
+            Refusal::StepZero => write!(f, "the level lies within a range whose step is 0"),
+            Refusal::Unlisted(number) => write!(f, "refused by {number}, for which there is no name here"),
+        }
     }
 }
 
 impl std::error::Error for Refusal {}
 
+fn accepted(status: u8, values: &[u64]) -> Result<(), Refusal> {
+    match status {
+        0 => Ok(()),
+        _ => Err(Refusal::of(status, values)),
+    }
+}
+
 // The values of a call that accepts. Two at least, so that a refusal's values always fit.
 fn told<const N: usize>(call: impl FnOnce(*mut u64, usize) -> u8) -> Result<[u64; N], Refusal> {
     const { assert!(N >= 2) };
     let mut values = [0; N];
-    match call(values.as_mut_ptr(), N) {
-        0 => Ok(values),
-        status => Err(Refusal::of(status, &values)),
-    }
+    let status = call(values.as_mut_ptr(), N);
+    accepted(status, &values).map(|()| values)
 }
 
 fn byte(n: u64) -> Option<u8> {
@@ -117,7 +158,7 @@ fn flag(n: u64) -> Option<bool> {
     }
 }
 
-/// The name of a frame's type byte.
+/// A frame's type, by the name of its byte on the wire.
 #[derive(Clone, Copy, Debug, PartialEq, Eq)]
 pub enum DataType {
     Data,
@@ -160,6 +201,33 @@ impl DataType {
             _ => DataType::Unknown(byte),
         }
     }
+
+    pub fn to_wire(self) -> u8 {
+        match self {
+            DataType::Data => 0x00,
+            DataType::Ack => 0x01,
+            DataType::DataMcNo1 => 0x02,
+            DataType::DataIcd => 0x09,
+            DataType::DataEv => 0x0A,
+            DataType::DataMdr => 0x0C,
+            DataType::DataCommon => 0x0D,
+            DataType::DataMdrNo2 => 0x0E,
+            DataType::Shot => 0x10,
+            DataType::ShotMcNo1 => 0x12,
+            DataType::ShotIcd => 0x19,
+            DataType::ShotEv => 0x1A,
+            DataType::ShotMdr => 0x1C,
+            DataType::ShotCommon => 0x1D,
+            DataType::ShotMdrNo2 => 0x1E,
+            DataType::Unknown(byte) => byte,
+        }
+    }
+}
+
+impl From<u8> for DataType {
+    fn from(byte: u8) -> DataType {
+        DataType::from_wire(byte)
+    }
 }
 
 // SAFETY, in every call below: each pointer and length are those of one slice or array, which is borrowed for the call, and the library
@@ -181,10 +249,10 @@ pub fn unescape(src: &[u8], out: &mut [u8]) -> Result<usize, Refusal> {
     Ok(v[0] as usize)
 }
 
-/// How many bytes were written to the front of `out`. `data_type` is the byte on the wire.
-pub fn pack(data_type: u8, seq: u8, payload: &[u8], out: &mut [u8]) -> Result<usize, Refusal> {
+/// How many bytes were written to the front of `out`.
+pub fn pack(data_type: DataType, seq: u8, payload: &[u8], out: &mut [u8]) -> Result<usize, Refusal> {
     let v: [u64; 2] = told(|v, n| unsafe {
-        sys::mdr_pack(data_type, seq, payload.as_ptr(), payload.len(), out.as_mut_ptr(), out.len(), v, n)
+        sys::mdr_pack(data_type.to_wire(), seq, payload.as_ptr(), payload.len(), out.as_mut_ptr(), out.len(), v, n)
     })?;
     Ok(v[0] as usize)
 }
@@ -198,8 +266,7 @@ pub fn ack(seq: u8, out: &mut [u8]) -> Result<usize, Refusal> {
 /// What a frame carried.
 #[derive(Clone, Copy, Debug, PartialEq, Eq)]
 pub struct Unpacked<'a> {
-    /// the byte on the wire
-    pub data_type: u8,
+    pub data_type: DataType,
     pub seq: u8,
     pub payload: &'a [u8],
 }
@@ -207,7 +274,7 @@ pub struct Unpacked<'a> {
 /// Reads one whole frame; the payload is a part of `work`.
 pub fn unpack<'a>(frame: &[u8], work: &'a mut [u8]) -> Result<Unpacked<'a>, Refusal> {
     let v: [u64; 3] = told(|v, n| unsafe { sys::mdr_unpack(frame.as_ptr(), frame.len(), work.as_mut_ptr(), work.len(), v, n) })?;
-    Ok(Unpacked { data_type: v[0] as u8, seq: v[1] as u8, payload: &work[6..6 + v[2] as usize] })
+    Ok(Unpacked { data_type: DataType::from_wire(v[0] as u8), seq: v[1] as u8, payload: &work[6..6 + v[2] as usize] })
 }
 
 /// A span of the held bytes, markers included.
@@ -217,74 +284,41 @@ pub struct Span {
     pub len: usize,
 }
 
-/// The scanner's state. The caller lends each call the store, the same one as left by the call before.
-#[repr(C)]
-#[derive(Clone, Copy, Debug, PartialEq, Eq)]
-pub struct Scanner {
-    pub limit: usize,
-    pub count: usize,
-}
-
 impl Scanner {
     /// Fills the store with zeros.
     pub fn open(limit: usize, store: &mut [u8]) -> Result<Scanner, Refusal> {
-        let v: [u64; 2] = told(|v, n| unsafe { sys::mdr_open(limit, store.as_mut_ptr(), store.len(), v, n) })?;
-        Ok(Scanner { limit, count: v[0] as usize })
+        let mut scanner = Scanner { limit, count: 0 };
+        let status = unsafe { sys::mdr_open(&mut scanner, limit, store.as_mut_ptr(), store.len()) };
+        accepted(status, &[]).map(|()| scanner)
     }
 
     pub fn push(&mut self, store: &mut [u8], piece: &[u8]) -> Result<(), Refusal> {
-        let v: [u64; 2] = told(|v, n| unsafe {
-            sys::mdr_push(self.limit, self.count, store.as_mut_ptr(), store.len(), piece.as_ptr(), piece.len(), v, n)
-        })?;
-        self.count = v[0] as usize;
-        Ok(())
+        accepted(unsafe { sys::mdr_push(self, store.as_mut_ptr(), store.len(), piece.as_ptr(), piece.len()) }, &[])
     }
 
     /// The first span among the held bytes.
     pub fn find(&self, store: &[u8]) -> Result<Option<Span>, Refusal> {
-        let v: [u64; 3] = told(|v, n| unsafe { sys::mdr_find(self.limit, self.count, store.as_ptr(), store.len(), v, n) })?;
+        let v: [u64; 3] = told(|v, n| unsafe { sys::mdr_find(self, store.as_ptr(), store.len(), v, n) })?;
         Ok((v[0] == 1).then_some(Span { at: v[1] as usize, len: v[2] as usize }))
     }
 
     /// Whether a span went.
     pub fn take(&mut self, store: &mut [u8]) -> Result<bool, Refusal> {
-        let v: [u64; 2] = told(|v, n| unsafe { sys::mdr_take(self.limit, self.count, store.as_mut_ptr(), store.len(), v, n) })?;
-        self.count = v[1] as usize;
+        let v: [u64; 2] = told(|v, n| unsafe { sys::mdr_take(self, store.as_mut_ptr(), store.len(), v, n) })?;
         Ok(v[0] == 1)
     }
 
     /// The first `n` held bytes go, no more than are held.
     pub fn skip(&mut self, store: &mut [u8], n: usize) -> Result<(), Refusal> {
-        let v: [u64; 2] = told(|v, len| unsafe { sys::mdr_skip(self.limit, self.count, store.as_mut_ptr(), store.len(), n, v, len) })?;
-        self.count = v[0] as usize;
-        Ok(())
+        accepted(unsafe { sys::mdr_skip(self, store.as_mut_ptr(), store.len(), n) }, &[])
     }
 
-    /// `push`, by the call that changes the state in its place.
-    #[inline]
-    pub fn push_lent(&mut self, store: &mut [u8], piece: &[u8]) -> Result<(), Refusal> {
-        match unsafe { sys::mdr_scanner_push(self, store.as_mut_ptr(), store.len(), piece.as_ptr(), piece.len()) } {
-            0 => Ok(()),
-            status => Err(Refusal::of(status, &[])),
-        }
-    }
-
-    /// `take`, by the call that changes the state in its place.
-    #[inline]
-    pub fn take_lent(&mut self, store: &mut [u8]) -> Result<bool, Refusal> {
-        match unsafe { sys::mdr_scanner_take(self, store.as_mut_ptr(), store.len()) } {
-            0 => Ok(false),
-            255 => Ok(true),
-            status => Err(Refusal::of(status, &[])),
-        }
-    }
-
-    /// The length of the next span's line, written to the front of `out`, or none where no span is held.
+    /// The length of the next span's line, written to the front of `out`, or none where no span is held. From an accepted opening
+    /// on, an `out` of four times the store's length is never too short.
     pub fn line(&mut self, store: &mut [u8], plan: &[u8], work: &mut [u8], out: &mut [u8]) -> Result<Option<usize>, Refusal> {
-        let v: [u64; 3] = told(|v, n| unsafe {
+        let v: [u64; 2] = told(|v, n| unsafe {
             sys::mdr_line(
-                self.limit,
-                self.count,
+                self,
                 store.as_mut_ptr(),
                 store.len(),
                 plan.as_ptr(),
@@ -297,18 +331,16 @@ impl Scanner {
                 n,
             )
         })?;
-        self.count = v[2] as usize;
-        Ok((v[0] == 1).then_some(v[1] as usize))
+        Ok((v[0] != 0).then_some(v[0] as usize))
     }
 
     /// The lines of all held spans, written to the front of `out`: their length together, and why no more were written, nothing where no
     /// span is left.
     pub fn all_lines(&mut self, store: &mut [u8], plan: &[u8], work: &mut [u8], out: &mut [u8]) -> (usize, Result<(), Refusal>) {
-        let mut v = [0; 2];
+        let mut v = [0; 1];
         let status = unsafe {
             sys::mdr_all_lines(
-                self.limit,
-                self.count,
+                self,
                 store.as_mut_ptr(),
                 store.len(),
                 plan.as_ptr(),
@@ -321,16 +353,15 @@ impl Scanner {
                 v.len(),
             )
         };
-        self.count = v[1] as usize;
-        (v[0] as usize, if status == 0 { Ok(()) } else { Err(Refusal::of(status, &[])) })
+        (v[0] as usize, accepted(status, &[]))
     }
 }
 
 /// The first span of these bytes.
 pub fn seek(bytes: &[u8]) -> Option<Span> {
-    let mut v = [0; 2];
-    let found = unsafe { sys::mdr_seek(bytes.as_ptr(), bytes.len(), v.as_mut_ptr(), v.len()) };
-    (found == 2).then_some(Span { at: v[0] as usize, len: v[1] as usize })
+    let mut v = [0; 3];
+    unsafe { sys::mdr_seek(bytes.as_ptr(), bytes.len(), v.as_mut_ptr(), v.len()) };
+    (v[0] == 2).then_some(Span { at: v[1] as usize, len: v[2] as usize })
 }
 
 pub const PLAN_LEN: usize = 512;
@@ -388,7 +419,7 @@ fn cell(v: &[u64]) -> Option<Cell> {
         1 => Charging::Yes,
         2 => Charging::Unknown,
         3 => Charging::Charged,
-        other => Charging::Other((other - 256) as u8),
+        other => Charging::Other(other as u8),
     };
     Some(Cell { level: byte(v[0])?, charging, threshold: byte(v[2]) })
 }
@@ -445,11 +476,8 @@ pub struct AmbientRange {
 impl AmbientRange {
     /// Whether a headset with this range takes `level`.
     pub fn admits(self, level: i32) -> Result<bool, Refusal> {
-        match unsafe { sys::mdr_admits(self.min, self.max, self.step, level) } {
-            0 => Ok(false),
-            1 => Ok(true),
-            status => Err(Refusal::of(status, &[])),
-        }
+        let v: [u64; 2] = told(|v, n| unsafe { sys::mdr_admits(self.min, self.max, self.step, level, v, n) })?;
+        Ok(v[0] == 1)
     }
 
     /// The levels that lie from `low` to `high`, on the same steps.
@@ -552,13 +580,6 @@ pub fn support_check(payload: &[u8]) -> Result<usize, Refusal> {
     Ok(v[0] as usize)
 }
 
-#[repr(C)]
-#[derive(Clone, Copy, Debug, Default, PartialEq, Eq)]
-pub struct SupportFunction {
-    pub code: u8,
-    pub priority: u8,
-}
-
 #[derive(Clone, Copy, Debug, PartialEq, Eq)]
 pub enum Table {
     One,
@@ -566,16 +587,15 @@ pub enum Table {
 }
 
 /// How many functions were written to the front of `records`.
-#[inline]
 pub fn support_functions(table: Table, payload: &[u8], records: &mut [SupportFunction]) -> Result<usize, Refusal> {
     let table = match table {
         Table::One => 1,
         Table::Two => 2,
     };
-    match unsafe { sys::mdr_support_functions(table, payload.as_ptr(), payload.len(), records.as_mut_ptr(), records.len()) } {
-        count @ 0..=255 => Ok(count as usize),
-        refused => Err(Refusal::of((refused - 256) as u8, &[])),
-    }
+    let v: [u64; 2] = told(|v, n| unsafe {
+        sys::mdr_support_functions(table, payload.as_ptr(), payload.len(), records.as_mut_ptr(), records.len(), v, n)
+    })?;
+    Ok(v[0] as usize)
 }
 
 #[derive(Clone, Copy, Debug, PartialEq, Eq)]
@@ -592,4 +612,17 @@ pub fn general_setting(payload: &[u8]) -> Result<GeneralSetting, Refusal> {
 /// Whether the bytes are UTF-8 (RFC 3629).
 pub fn is_text(bytes: &[u8]) -> bool {
     unsafe { sys::mdr_is_text(bytes.as_ptr(), bytes.len()) }
+}
+
+#[cfg(test)]
+mod tests {
+    use super::Refusal;
+
+    #[test]
+    fn every_status_is_a_refusal() {
+        for status in 1..=255 {
+            assert_eq!(Refusal::of(status, &[]).number(), status);
+        }
+        assert_eq!(Refusal::of(16, &[7]), Refusal::LengthMismatch { declared: 7, actual: 0 });
+    }
 }

@@ -1,8 +1,21 @@
 //! The calls as the library defines them: `bindings/c/mdr.h` says what each does.
 
-use crate::{Scanner, SupportFunction};
+/// The scanner's state. The caller lends each call the store, the same one as left by the call before.
+#[repr(C)]
+#[derive(Clone, Copy, Debug, PartialEq, Eq)]
+pub struct Scanner {
+    pub limit: usize,
+    pub count: usize,
+}
 
-extern "C" {
+#[repr(C)]
+#[derive(Clone, Copy, Debug, Default, PartialEq, Eq)]
+pub struct SupportFunction {
+    pub code: u8,
+    pub priority: u8,
+}
+
+unsafe extern "C" {
     pub fn mdr_data_type(byte: u8) -> u8;
     pub fn mdr_checksum(bytes: *const u8, bytes_len: usize) -> u8;
     pub fn mdr_escape(src: *const u8, src_len: usize, out: *mut u8, out_len: usize, values: *mut u64, values_len: usize) -> u8;
@@ -20,24 +33,12 @@ extern "C" {
     pub fn mdr_ack(seq: u8, out: *mut u8, out_len: usize, values: *mut u64, values_len: usize) -> u8;
     pub fn mdr_unpack(frame: *const u8, frame_len: usize, work: *mut u8, work_len: usize, values: *mut u64, values_len: usize) -> u8;
 
-    pub fn mdr_open(limit: usize, store: *mut u8, store_len: usize, values: *mut u64, values_len: usize) -> u8;
-    pub fn mdr_push(
-        limit: usize,
-        count: usize,
-        store: *mut u8,
-        store_len: usize,
-        piece: *const u8,
-        piece_len: usize,
-        values: *mut u64,
-        values_len: usize,
-    ) -> u8;
-    pub fn mdr_find(limit: usize, count: usize, store: *const u8, store_len: usize, values: *mut u64, values_len: usize) -> u8;
-    pub fn mdr_take(limit: usize, count: usize, store: *mut u8, store_len: usize, values: *mut u64, values_len: usize) -> u8;
+    pub fn mdr_open(scanner: *mut Scanner, limit: usize, store: *mut u8, store_len: usize) -> u8;
+    pub fn mdr_push(scanner: *mut Scanner, store: *mut u8, store_len: usize, piece: *const u8, piece_len: usize) -> u8;
+    pub fn mdr_find(scanner: *const Scanner, store: *const u8, store_len: usize, values: *mut u64, values_len: usize) -> u8;
+    pub fn mdr_take(scanner: *mut Scanner, store: *mut u8, store_len: usize, values: *mut u64, values_len: usize) -> u8;
+    pub fn mdr_skip(scanner: *mut Scanner, store: *mut u8, store_len: usize, n: usize) -> u8;
     pub fn mdr_seek(bytes: *const u8, bytes_len: usize, values: *mut u64, values_len: usize) -> u8;
-    pub fn mdr_skip(limit: usize, count: usize, store: *mut u8, store_len: usize, n: usize, values: *mut u64, values_len: usize) -> u8;
-
-    pub fn mdr_scanner_push(scanner: *mut Scanner, store: *mut u8, store_len: usize, piece: *const u8, piece_len: usize) -> u8;
-    pub fn mdr_scanner_take(scanner: *mut Scanner, store: *mut u8, store_len: usize) -> u8;
 
     pub fn mdr_message(payload: *const u8, payload_len: usize, values: *mut u64, values_len: usize) -> u8;
     pub fn mdr_battery(payload: *const u8, payload_len: usize, values: *mut u64, values_len: usize) -> u8;
@@ -54,10 +55,12 @@ extern "C" {
         payload_len: usize,
         records: *mut SupportFunction,
         records_len: usize,
-    ) -> u16;
+        values: *mut u64,
+        values_len: usize,
+    ) -> u8;
     pub fn mdr_general_setting(payload: *const u8, payload_len: usize, values: *mut u64, values_len: usize) -> u8;
     pub fn mdr_is_text(bytes: *const u8, bytes_len: usize) -> bool;
-    pub fn mdr_admits(min: u8, max: u8, step: u8, level: i32) -> u8;
+    pub fn mdr_admits(min: u8, max: u8, step: u8, level: i32, values: *mut u64, values_len: usize) -> u8;
     pub fn mdr_within(min: u8, max: u8, step: u8, low: u8, high: u8, values: *mut u64, values_len: usize) -> u8;
     pub fn mdr_eq_shape(count: usize) -> u8;
     pub fn mdr_eq_bias(count: usize) -> i32;
@@ -66,8 +69,7 @@ extern "C" {
     pub fn mdr_house_plan(plan: *mut u8);
     pub fn mdr_plan_fine(plan: *const u8, plan_len: usize) -> bool;
     pub fn mdr_line(
-        limit: usize,
-        count: usize,
+        scanner: *mut Scanner,
         store: *mut u8,
         store_len: usize,
         plan: *const u8,
@@ -80,8 +82,7 @@ extern "C" {
         values_len: usize,
     ) -> u8;
     pub fn mdr_all_lines(
-        limit: usize,
-        count: usize,
+        scanner: *mut Scanner,
         store: *mut u8,
         store_len: usize,
         plan: *const u8,

@@ -9,6 +9,9 @@ fn frames() {
     assert_eq!(DataType::from_wire(0x0E), DataType::DataMdrNo2);
     assert_eq!(DataType::from_wire(0x1E), DataType::ShotMdrNo2);
     assert_eq!(DataType::from_wire(0x77), DataType::Unknown(0x77));
+    for byte in 0..=255 {
+        assert_eq!(DataType::from(byte).to_wire(), byte);
+    }
     assert_eq!(checksum(&[]), 0);
     assert_eq!(checksum(&[0xFF, 0x02]), 1);
 
@@ -27,12 +30,28 @@ fn frames() {
     assert_eq!(plain, [0; 4]);
 
     let mut frame = [0; 32];
-    let len = pack(0x0C, 1, &[0x23, 0x3E], &mut frame).unwrap();
+    let len = pack(DataType::DataMdr, 1, &[0x23, 0x3E], &mut frame).unwrap();
+    assert_eq!(frame[1], 0x0C);
     let mut work = [0xEE; 32];
-    assert_eq!(unpack(&frame[..len], &mut work), Ok(Unpacked { data_type: 0x0C, seq: 1, payload: &[0x23, 0x3E] }));
+    let unpacked = Unpacked { data_type: DataType::DataMdr, seq: 1, payload: &[0x23, 0x3E] };
+    assert_eq!(unpack(&frame[..len], &mut work), Ok(unpacked));
+    let len = pack(DataType::Unknown(0x77), 1, &[], &mut frame).unwrap();
+    assert_eq!(unpack(&frame[..len], &mut work).unwrap().data_type, DataType::Unknown(0x77));
     assert_eq!(unpack(&[0x3E, 1, 1, 0, 0, 0, 1, 2, 0x3C], &mut work), Err(Refusal::BadChecksum { declared: 2, computed: 3 }));
     assert_eq!(unpack(&[0x3E, 1, 1, 0, 0, 0, 1, 3, 0x3C], &mut work), Err(Refusal::LengthMismatch { declared: 1, actual: 0 }));
     assert_eq!(unpack(&[], &mut work).unwrap_err().number(), 8);
+    assert_eq!(unpack(&[0x3E; 9], &mut work), Err(Refusal::NoEnd));
+}
+
+#[test]
+fn refusals() {
+    let mut work = [0; 32];
+    let refusal = unpack(&[0x3E, 1, 1, 0, 0, 0, 1, 2, 0x3C], &mut work).unwrap_err();
+    let error: &dyn std::error::Error = &refusal;
+    assert_eq!(error.to_string(), "the frame carries the checksum 02, its bytes have 03");
+    assert_eq!(refusal.number(), 15);
+    assert_eq!(Refusal::Unlisted(23).number(), 23);
+    assert_eq!(Refusal::Unlisted(23).to_string(), "refused by 23, for which there is no name here");
 }
 
 #[test]
@@ -51,6 +70,21 @@ fn scanner() {
     assert_eq!(s.take(&mut store), Ok(false));
     assert_eq!(s.count, 0);
     assert_eq!(s.push(&mut store, &[0; 17]), Err(Refusal::StoreFull));
+    assert_eq!((s.limit, s.count), (9, 0));
+
+    // With a START and no END: the limit stays, and one byte more goes.
+    s.push(&mut store, &[0, 0x3E, 1, 1, 1, 1, 1, 1, 1, 1]).unwrap();
+    assert_eq!(s.take(&mut store), Ok(false));
+    assert_eq!((s.count, store[0]), (9, 0x3E));
+    s.push(&mut store, &[1]).unwrap();
+    assert_eq!(s.take(&mut store), Ok(false));
+    assert_eq!((s.count, store), (0, [0; 16]));
+
+    let mut other = Scanner { limit: 9, count: 17 };
+    assert_eq!(other.take(&mut store), Err(Refusal::HeldBeyondStore));
+    assert_eq!(other.find(&store), Err(Refusal::HeldBeyondStore));
+    assert_eq!(other, Scanner { limit: 9, count: 17 });
+    assert_eq!(Scanner { limit: 8, count: 0 }.skip(&mut store, 1), Err(Refusal::LimitOutOfRange));
 }
 
 #[test]
@@ -127,16 +161,7 @@ fn paired() {
 }
 
 #[test]
-fn lent() {
-    let mut store = [0; 16];
-    let mut s = Scanner::open(9, &mut store).unwrap();
-    assert_eq!(s.push_lent(&mut store, &[0x00, 0x3E, 0x3C, 0x42]), Ok(()));
-    assert_eq!(s.push_lent(&mut store, &[0; 13]), Err(Refusal::StoreFull));
-    assert_eq!(s.take_lent(&mut store), Ok(true));
-    assert_eq!((s.count, store[0], store[1]), (1, 0x42, 0));
-    assert_eq!(s.take_lent(&mut store), Ok(false));
-    assert_eq!(Scanner { limit: 8, count: 0 }.take_lent(&mut store), Err(Refusal::LimitOutOfRange));
-
+fn support_lists() {
     let rest = SupportFunction { code: 9, priority: 9 };
     let mut records = [rest; 2];
     assert_eq!(support_functions(Table::Two, &[0x07, 0x00, 1, 0x22, 0x01], &mut records), Ok(1));

@@ -1,6 +1,6 @@
 -- Which types return unaltered from their wire byte. Assumes nothing.
 use Prim.Native.Nat.{ℕ}
-use mathlib.Core.Path.{_≡_, refl, sym, ap, _∙_}
+use mathlib.Core.Path.{_≡_, refl, sym, _∙_}
 use lib.Dec.{eqb}
 use Rattle.base.specs.Outcome.{pick}
 use Rattle.base.specs.DataType.{fromWire, toWire}

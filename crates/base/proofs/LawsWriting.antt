@@ -1,11 +1,11 @@
 -- Loops and chains of calls that store bytes in a lent output. Assumes nothing.
-use Prim.Native.Nat.{ℕ, zero, suc, _+_, _-_, _≤_, _<_}
+use Prim.Native.Nat.{ℕ, suc, _+_, _-_, _≤_, _<_}
 use mathlib.Core.Path.{_≡_, refl, sym, ap, _∙_}
 use mathlib.Core.List.{List, [], _∷_, _++_, append-assoc, append-nil}
-use native.Mathlib.Nat.{add-suc, suc-add, add-zero, zero-add, sub-zero}
+use native.Mathlib.Nat.{add-zero, zero-add, sub-zero}
 use native.Mathlib.Numerals.{add-one}
 use native.Mathlib.Omega.{arith}
-use lib.ListN.{length, take, drop, getD, set, replicate, length-append, length-drop, drop-of-length-le, length-set, length-replicate, take-append-drop}
+use lib.ListN.{length, take, drop, getD, set, replicate, length-append, length-drop, drop-of-length-le, length-set, take-append-drop}
 use lib.Seq.{sets, sets-eq, length-sets, take-suc-set, take-all, append-snoc, drop-cons, drop-drop}
 use mathlib.Core.Bool.{Bool, true, false}
 use lib.Dec.{ltb}
@@ -15,7 +15,7 @@ use Rattle.base.specs.Outcome.{Outcome, accepted, refused, pick}
 use Rattle.base.specs.Writing.{WriteEffect, over, zeros, zeroedFrom, writeOr, writeCall}
 use Rattle.base.specs.Stored.{Stored}
 
-pub sets-append : (xs ys out : List ℕ) (at : ℕ) → sets out at (xs ++ ys) ≡ sets (sets out at xs) (at + length xs) ys
+sets-append : (xs ys out : List ℕ) (at : ℕ) → sets out at (xs ++ ys) ≡ sets (sets out at xs) (at + length xs) ys
 sets-append [] ys out at = rw (add-zero at)
 sets-append (x ∷ xs) ys out at = sets-append xs ys (set out at x) (suc at) ∙ ap (λ (k : ℕ). sets (sets (set out at x) (suc at) xs) k ys) (omega arith)
 
@@ -100,7 +100,7 @@ module _ (number : ℕ) (bytes out : List ℕ) where
   unfolding writeOr
   write-refused h = rw (lt-ltb (length out) (length bytes) h)
 
-  pub write-over : length bytes ≤ length out → writeOr number bytes out ≡ record { answer = accepted (length bytes); out = over bytes out }
+  write-over : length bytes ≤ length out → writeOr number bytes out ≡ record { answer = accepted (length bytes); out = over bytes out }
   unfolding writeOr
   write-over h = rw (le-ltb (length out) (length bytes) h)
 

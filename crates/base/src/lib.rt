@@ -1,9 +1,11 @@
-// What everything else stands on: refusals, data types, the checksum, and writing to a lent output.
-pub mod data_type;
-pub mod refusal;
-pub mod sum;
-pub mod writing;
+// What everything else stands on: refusals, data types, the checksum, blocks of bytes, and writing to a lent output.
+mod block;
+mod data_type;
+mod refusal;
+mod sum;
+mod writing;
 
+pub use block::block_end;
 pub use data_type::DataType;
 pub use refusal::Refusal;
 pub use sum::checksum;

@@ -15,7 +15,7 @@ pub enum Charging {
 }
 
 impl Charging {
-    pub fn from_byte(byte: u8) -> Charging
+    fn from_byte(byte: u8) -> Charging
         ensures { λ r. ⌜ r ≡ chargingOf byte ⌝ }
     {
         match byte {

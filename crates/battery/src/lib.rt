@@ -1,5 +1,5 @@
 // The battery levels that a message reports.
-pub mod battery;
+mod battery;
 
 pub use battery::BatteryAnswer;
 pub use battery::BatteryReport;

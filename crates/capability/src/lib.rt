@@ -1,5 +1,5 @@
 // What a headset says of its ambient levels.
-pub mod capability;
+mod capability;
 
 pub use capability::CapabilityAnswer;
 pub use capability::CapabilityReport;

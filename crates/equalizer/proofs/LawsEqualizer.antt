@@ -1,18 +1,33 @@
--- The bounds of a gain.
+-- Where the steps stand, and the bounds of a gain.
 use Prim.Native.Nat.{ℕ, suc, _-_, _≤_, _<_}
-use mathlib.Core.Path.{_≡_, refl}
+use mathlib.Core.Path.{_≡_, refl, ap}
 use mathlib.Core.Bool.{cond, Bool, true, false}
+use mathlib.Core.List.{List}
 use native.Mathlib.Omega.{arith}
 use lib.Dec.{ltb, le→leb, lit≤}
 use lib.IntN.{ℤ, pos, negsuc, subℕ, _-ℤ_}
+use lib.ListN.{length, drop, length-drop}
 use lib.Signed.{_≤ℤ_, leZ-yes}
 use mir.Syntax.{w32}
 use mir.Val.{SFits, toZ, ofZ}
 use mir.Facts.{toZ-pos}
 use borrow.Author.Tests.{ltb-true, ltb-false}
-use Rattle.equalizer.specs.Equalizer.{biasOf}
+use Rattle.base.specs.Outcome.{Outcome, accepted, refused}
+use Rattle.reading.proofs.LawsReading.{was-counted}
+use Rattle.equalizer.specs.Equalizer.{EqReport, equalizerOf, stepsOf, biasOf}
 use Rattle.equalizer.specs.declared.equalizer.EqShape.{EqShape}
 use Rattle.equalizer.specs.declared.equalizer.EqShape.the-variants.{ClearBassAndFive, TenBands, Unknown}
+
+-- the steps of a report stand from offset 4 on, as many as it counts
+pub steps-place : (p : List ℕ) (r : EqReport) → equalizerOf p ≡ accepted r → (stepsOf p ≡ drop 4 p) × (length (stepsOf p) ≡ r .count)
+unfolding stepsOf equalizerOf
+steps-place p r e =
+    let w = was-counted _ 3 1 _ p r e in
+    rw e (refl, omega (arith, w .0, ap countIn (w .1), length-drop 4 p))
+  where
+    countIn : Outcome EqReport → ℕ
+    countIn (accepted r) = r .count
+    countIn (refused n vs) = 0
 
 -- a shape's bias is 6 or 10
 by-bias : (P : ℤ → Type 0) → P (pos 6) → P (pos 10) → (s : EqShape) → P (biasOf s)

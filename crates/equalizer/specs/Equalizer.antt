@@ -27,7 +27,7 @@ unfoldable pub equalizerOf : List ℕ → Outcome EqReport
 equalizerOf = readingOf (λ kind. eqb kind 0x00) (counted 3 (fixed 1) 0) (λ p. accepted (record { preset = getD p 2 0; count = getD p 3 0 }))
 
 -- "handed back as a part of the payload by a call of its own, empty where it refuses"
-abbrev pub stepsBy : Outcome EqReport → List ℕ → List ℕ
+abbrev stepsBy : Outcome EqReport → List ℕ → List ℕ
 stepsBy (accepted r) p = drop 4 p
 stepsBy (refused n vs) p = []
 

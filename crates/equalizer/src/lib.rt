@@ -1,5 +1,5 @@
 // An equalizer's steps, and what they mean.
-pub mod equalizer;
+mod equalizer;
 
 pub use equalizer::EqAnswer;
 pub use equalizer::EqShape;

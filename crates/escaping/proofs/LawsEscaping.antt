@@ -1,16 +1,15 @@
 -- Laws of escaping. Assumes nothing.
-use Prim.Native.Nat.{ℕ, zero, suc, _+_, _-_, _*_, _≤_, _<_}
+use Prim.Native.Nat.{ℕ, _+_, _-_, _*_, _≤_, _<_}
 use mathlib.Core.Path.{_≡_, refl, sym, ap, _∙_}
-use mathlib.Core.Bool.{Bool, true, false}
 use mathlib.Core.Logic.{_⊎_, inl, inr, ⊎-elim}
-use mathlib.Core.List.{List, [], _∷_, _++_, append-assoc, append-nil}
+use mathlib.Core.List.{List, [], _∷_, _++_, append-assoc}
 use native.Mathlib.Numerals.{add-one}
 use native.Mathlib.Omega.{arith}
 use lib.ListN.{length, take, drop, getD, length-append, drop-of-length-le}
 use lib.Seq.{drop-cons}
 use lib.Dec.{eqb}
-use borrow.Author.Tests.{eq-eqb, ne-eqb}
-use Rattle.base.specs.Outcome.{Outcome, accepted, refused, pick}
+use borrow.Author.Tests.{ne-eqb}
+use Rattle.base.specs.Outcome.{Outcome, pick}
 use Rattle.escaping.specs.Escaping.{START, END, SENTRY, escapedByte, eachOf, escapeOf}
 use Rattle.base.proofs.LawsTests.{by-eqb}
 use Rattle.base.proofs.LawsWriting.{Begins, part-begins}
@@ -33,10 +32,6 @@ module _ (g : ℕ → List ℕ) where
   unfolding eachOf
   each-append [] ys = refl
   each-append (x ∷ xs) ys = rw (each-append xs ys) (sym (append-assoc (g x) (eachOf g xs) (eachOf g ys)))
-
-  pub each-one : (b : ℕ) → eachOf g (b ∷ []) ≡ g b
-  unfolding eachOf
-  each-one b = append-nil (g b)
 
   pub each-step : (src : List ℕ) (i : ℕ) → i < length src → Begins (eachOf g (drop i src)) (g (getD src i 0)) (eachOf g (drop (i + 1) src))
   unfolding eachOf
@@ -79,17 +74,18 @@ pub part-length : (g : ℕ → List ℕ) (src : List ℕ) (i e : ℕ) → i ≤ 
     → length (eachOf g (drop i src)) ≡ length (eachOf g (take (e - i) (drop i src))) + length (eachOf g (drop e src))
 part-length g src i e h = ap length (each-part g src i e h .splits) ∙ length-append (eachOf g (take (e - i) (drop i src))) (eachOf g (drop e src))
 
--- bytes that escaping makes no longer are left as they are
 one-or-two : (b : ℕ) → (escapedByte b ≡ b ∷ []) ⊎ (length (escapedByte b) ≡ 2)
 one-or-two = each-byte (λ b e. (e ≡ b ∷ []) ⊎ (length e ≡ 2)) (inr refl) (inr refl) (inr refl) (λ b _ _ _. inl refl)
 
-no-shorter : (src : List ℕ) → length src ≤ length (escapeOf src)
+-- an escaped form is no shorter
+pub no-shorter : (src : List ℕ) → length src ≤ length (escapeOf src)
 unfolding eachOf
 no-shorter [] = omega arith
 no-shorter (b ∷ bs) =
     ⊎-elim (λ e. omega (arith, length-append (escapedByte b) (escapeOf bs), ap length e, no-shorter bs))
     (λ e. omega (arith, length-append (escapedByte b) (escapeOf bs), e, no-shorter bs)) (one-or-two b)
 
+-- bytes that escaping makes no longer are left as they are
 pub no-longer : (src : List ℕ) → length (escapeOf src) ≡ length src → escapeOf src ≡ src
 unfolding eachOf
 no-longer [] h = refl

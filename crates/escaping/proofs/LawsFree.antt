@@ -1,13 +1,12 @@
 -- Lists that lack a byte, and lists of bytes. Assumes nothing.
-use Prim.Native.Nat.{ℕ, zero, suc, _<_}
-use mathlib.Core.Path.{_≡_, refl, sym, ap, _∙_}
-use mathlib.Core.Bool.{Bool, true, false}
+use Prim.Native.Nat.{ℕ, suc, _<_}
+use mathlib.Core.Path.{_≡_, refl}
+use mathlib.Core.Bool.{false}
 use mathlib.Core.List.{List, [], _∷_, _++_}
-use native.Mathlib.Omega.{arith}
-use lib.ListN.{length, getD}
+use lib.ListN.{getD}
 use lib.Dec.{eqb}
 use borrow.Author.Tests.{ne-eqb}
-use Rattle.escaping.specs.Escaping.{START, END, SENTRY, escapedByte, eachOf, escapeOf}
+use Rattle.escaping.specs.Escaping.{START, END, escapedByte, eachOf, escapeOf}
 use Rattle.escaping.proofs.LawsEscaping.{each-byte}
 
 -- no byte of the list is b

@@ -1,18 +1,16 @@
 -- Laws of unescaping, and of a loop that fills an output and can refuse on the way. Assumes nothing.
-use Prim.Native.Nat.{ℕ, zero, suc, _+_, _-_, _≤_, _<_}
+use Prim.Native.Nat.{ℕ, suc, _+_, _-_, _≤_, _<_}
 use mathlib.Core.Path.{_≡_, refl, sym, ap, _∙_}
 use mathlib.Core.Logic.{_⊎_, inl, inr}
-use mathlib.Core.Bool.{Bool, true, false}
-use mathlib.Core.List.{List, [], _∷_, _++_}
-use native.Mathlib.Nat.{add-zero, zero-add}
+use mathlib.Core.List.{List, [], _∷_}
 use native.Mathlib.Numerals.{add-one}
 use native.Mathlib.Omega.{arith}
 use lib.ListN.{length, drop, getD, set, replicate, length-set, drop-of-length-le}
 use lib.Seq.{sets, drop-cons}
 use lib.Dec.{eqb}
-use borrow.Author.Tests.{eq-eqb, ne-eqb, le-ltb, lt-ltb}
+use borrow.Author.Tests.{ne-eqb, le-ltb, lt-ltb}
 use Rattle.base.specs.Outcome.{Outcome, accepted, refused, pick, onAccepted}
-use Rattle.base.specs.Writing.{WriteEffect, over, zeros}
+use Rattle.base.specs.Writing.{WriteEffect, zeros}
 use Rattle.escaping.specs.Escaping.{START, END, SENTRY, thenByte, escapeeThen, unescapeOf, escapeeOf, unescapeLeft, unescapeCall}
 use Rattle.base.proofs.LawsTests.{by-eqb, by-ltb}
 use Rattle.base.proofs.LawsWriting.{front}
@@ -91,7 +89,7 @@ unfolding unescapeCall
 unescape-short src out h = rw (lt-ltb (length out) (length src) h)
 
 -- an escapee stands for the byte 16 above it
-pub escapee : (e : ℕ) (rest : Outcome (List ℕ)) → 0x2C ≤ e → e < 0x2F → escapeeThen e rest ≡ thenByte (e + 16) rest
+escapee : (e : ℕ) (rest : Outcome (List ℕ)) → 0x2C ≤ e → e < 0x2F → escapeeThen e rest ≡ thenByte (e + 16) rest
 unfolding escapeeThen
 escapee e rest h k =
     by-eqb (λ t. pick t (thenByte END rest) (pick (eqb e 0x2D) (thenByte SENTRY rest) (pick (eqb e 0x2E) (thenByte START rest) (refused 13 (e ∷ [])))) ≡ thenByte (e + 16) rest) e 0x2C
@@ -100,7 +98,7 @@ escapee e rest h k =
     (λ p. rw p)
     (λ n2. let p : e ≡ 0x2E = omega arith in rw p))
 
-pub bad-escapee : (e : ℕ) (rest : Outcome (List ℕ)) → (e < 0x2C) ⊎ (0x2F ≤ e) → escapeeThen e rest ≡ refused 13 (e ∷ [])
+bad-escapee : (e : ℕ) (rest : Outcome (List ℕ)) → (e < 0x2C) ⊎ (0x2F ≤ e) → escapeeThen e rest ≡ refused 13 (e ∷ [])
 unfolding escapeeThen
 bad-escapee e rest (inl h) = rw (ne-eqb e 0x2C (λ p. omega arith), ne-eqb e 0x2D (λ p. omega arith), ne-eqb e 0x2E (λ p. omega arith))
 bad-escapee e rest (inr h) = rw (ne-eqb e 0x2C (λ p. omega arith), ne-eqb e 0x2D (λ p. omega arith), ne-eqb e 0x2E (λ p. omega arith))
@@ -111,7 +109,7 @@ module _ (src : List ℕ) (i : ℕ) (h : i < length src) where
   unfolding unescapeOf
   plain-turn n = record { turns = rw (drop-cons src i 0 h, add-one i, ne-eqb (getD src i 0) 0x3D n) }
 
-  pub sentry : getD src i 0 ≡ 0x3D → unescapeOf (drop i src) ≡ escapeeOf (drop (i + 1) src)
+  sentry : getD src i 0 ≡ 0x3D → unescapeOf (drop i src) ≡ escapeeOf (drop (i + 1) src)
   unfolding unescapeOf
   sentry e = rw (drop-cons src i 0 h, add-one i, e)
 

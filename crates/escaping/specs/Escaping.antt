@@ -1,6 +1,5 @@
 -- 01, "Frames": escaping, and 11 to 13 of unescaping.
 use Prim.Native.Nat.{ℕ}
-use mathlib.Core.Bool.{Bool, true, false}
 use mathlib.Core.List.{List, [], _∷_, _++_}
 use lib.ListN.{length}
 use lib.Dec.{ltb, eqb}

@@ -1,6 +1,7 @@
 // Escaping keeps the markers out of a frame's body.
 use base::Refusal;
 use base::Written;
+use base::block_end;
 use base::wipe;
 ghost use mathlib.Core.Path.{_≡_};
 ghost use Prim.Native.Nat.{_+_, _≤_, _<_};
@@ -21,14 +22,6 @@ const BLOCK: usize = 32;
 
 // A count of the bytes of such a block fits a byte, so that many are counted at once.
 const COUNT_BLOCK: usize = 128;
-
-// Where the block from `from` on ends that has at most `most` bytes.
-fn block_end(from: usize, len: usize, most: usize) -> usize
-    requires { ⌜ (from < len) × (0 < most) ⌝ }
-    ensures { λ r. ⌜ (from < r) × (r ≤ len) × (r ≤ from + most) ⌝ }
-{
-    if len - from <= most { len } else { from + most }
-}
 
 // How many bytes of a block are to be escaped.
 fn special_in(block: &[u8]) -> u8

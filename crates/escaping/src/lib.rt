@@ -1,5 +1,5 @@
 // The escaped form of a frame's body.
-pub mod escaping;
+mod escaping;
 
 pub use escaping::END;
 pub use escaping::SENTRY;

@@ -3,8 +3,9 @@ use Prim.Native.Nat.{ℕ, _+_}
 use mathlib.Core.Bool.{Bool, true, false}
 use mathlib.Core.List.{List, [], _∷_, _++_}
 use mathlib.Core.Option.{Option, none, some}
+use lib.Dec.{eqb}
 use lib.ListN.{getD}
-use Rattle.base.specs.Outcome.{Outcome, accepted, refused}
+use Rattle.base.specs.Outcome.{pick}
 use Rattle.base.specs.DataType.{toWire}
 use Rattle.framing.specs.Framing.{Header}
 use Rattle.base.specs.declared.data_type.DataType.{DataType}
@@ -31,13 +32,19 @@ use Rattle.capability.specs.Capability.{Capability, held, blank}
 use Rattle.range.specs.declared.range.AmbientRange.{AmbientRange}
 use Rattle.capability.specs.declared.capability.CapabilityReport.{CapabilityReport}
 use Rattle.equalizer.specs.Equalizer.{EqReport}
-use Rattle.gathering.specs.Gathering.{LinesEffect}
 use Rattle.equalizer.specs.declared.equalizer.EqShape.{EqShape}
 use Rattle.equalizer.specs.declared.equalizer.EqShape.the-variants as E
+use Rattle.support.specs.Support.{SupportList}
+use Rattle.support.specs.declared.support.Table.{Table}
+use Rattle.support.specs.declared.support.Table.the-variants.{One, Two}
 
 abbrev pub bit : Bool → ℕ
 bit false = 0
 bit true = 1
+
+-- whether a span went, whether a level is admitted
+abbrev pub bitNumbers : Bool → List ℕ
+bitNumbers on = bit on ∷ []
 
 -- an absent byte is 256, an absent flag 2
 abbrev pub byteOr256 : OptionByte → ℕ
@@ -77,28 +84,15 @@ spotNumbers (some spot) = 1 ∷ spot .at ∷ spot .len ∷ []
 spotNumbers none = 0 ∷ []
 
 -- 0 no START, 1 a START and no END, 2 both; then where the START stands, and how long the span is
-abbrev pub sightNumber : Sight → ℕ
-sightNumber NoStart = 0
-sightNumber (NoEnd at) = 1
-sightNumber (Both at len) = 2
-
 abbrev pub sightNumbers : Sight → List ℕ
-sightNumbers NoStart = []
-sightNumbers (NoEnd at) = at ∷ []
-sightNumbers (Both at len) = at ∷ len ∷ []
+sightNumbers NoStart = 0 ∷ []
+sightNumbers (NoEnd at) = 1 ∷ at ∷ []
+sightNumbers (Both at len) = 2 ∷ at ∷ len ∷ []
 
--- whether a span went, and how many bytes are held now
-abbrev pub takeNumbers : (held : ℕ) → Bool → List ℕ
-takeNumbers held span = bit span ∷ held ∷ []
-
--- 1 and the line's length, or 0 and 0 for no span; then how many bytes are held now
-abbrev pub lineNumbers : (held : ℕ) → Option ℕ → List ℕ
-lineNumbers held (some len) = 1 ∷ len ∷ held ∷ []
-lineNumbers held none = 0 ∷ 0 ∷ held ∷ []
-
--- how long the lines are together, and how many bytes are held now; told whatever the answer is
-abbrev pub linesNumbers : LinesEffect → List ℕ
-linesNumbers e = e .ready ∷ e .scanner .count ∷ []
+-- the line's length; 0 for no span, since a line is never empty
+abbrev pub lineNumbers : Option ℕ → List ℕ
+lineNumbers (some len) = len ∷ []
+lineNumbers none = 0 ∷ []
 
 -- command, kind, length
 abbrev pub messageNumbers : Message → List ℕ
@@ -156,6 +150,14 @@ equalizerNumbers steps e = e .preset ∷ e .count ∷ steps ∷ []
 abbrev pub deviceNumbers : PairedDevice → List ℕ
 deviceNumbers d = d .address ∷ d .status ∷ d .detail0 ∷ d .detail1 ∷ d .detail2 ∷ d .name ∷ d .len ∷ bit (d .text) ∷ []
 
+-- how many records the list has
+abbrev pub listNumbers : SupportList → List ℕ
+listNumbers list = list .count ∷ []
+
+-- 1 is table one, any other number is table two
+unfoldable pub tableOf : ℕ → Table
+tableOf n = pick (eqb n 1) One Two
+
 -- slot, enabled
 abbrev pub settingNumbers : GeneralSettingParam → List ℕ
 settingNumbers p = p .slot ∷ bit (p .enabled) ∷ []
@@ -163,11 +165,6 @@ settingNumbers p = p .slot ∷ bit (p .enabled) ∷ []
 -- a range; no answer below depends on its voice value
 abbrev pub unvoiced : (min max step : ℕ) → AmbientRange
 unvoiced min max step = record { voice = false; min = min; max = max; step = step }
-
--- no, yes, or the refusal
-abbrev pub admitsStatus : Outcome Bool → ℕ
-admitsStatus (accepted on) = bit on
-admitsStatus (refused n vs) = n
 
 -- 1, min, max and step; 0 for none
 abbrev pub withinNumbers : Option AmbientRange → List ℕ

@@ -6,7 +6,11 @@ use capability::CapabilityReport;
 use capability::Narrowed;
 use lists::EqAnswer;
 use lists::EqShape;
+use lists::SupportAnswer;
 use lists::SupportCheck;
+use lists::SupportFunction;
+use lists::Table;
+use lists::decode_support_functions;
 use paired::PairedDevice;
 use paired::PairedDevices;
 use paired::PairedLookup;
@@ -33,13 +37,13 @@ ghost use Rattle.payload.specs.Setting.{settingOf};
 ghost use Rattle.paired.specs.Paired.{pairedOf, lookupOf, maskedOf};
 ghost use Rattle.text.specs.Text.{isTextOf};
 ghost use Rattle.capability.specs.Capability.{capabilityOf};
-ghost use Rattle.range.specs.Range.{admitsOf, withinOf};
+ghost use Rattle.range.specs.Range.{admitsOf, admittedTold, withinOf};
 ghost use Rattle.equalizer.specs.Equalizer.{equalizerOf, stepsOf, shapeOf, biasOf, gainOf};
-ghost use Rattle.support.specs.Support.{checkOf};
+ghost use Rattle.support.specs.Support.{checkOf, supportCall, supportTold};
 ghost use Rattle.telling.specs.Told.{statusOf, numbersOf, told, only};
-ghost use Rattle.ffi.specs.Numbers.{bit, byteOr256, flagOr2, messageNumbers, chargingNumber, cellNumbers, batteryNumbers, modeNumber, noiseNumbers, reportNumbers, capabilityNumbers, equalizerNumbers, deviceNumbers, settingNumbers, unvoiced, admitsStatus, withinNumbers, shapeNumber};
+ghost use Rattle.ffi.specs.Numbers.{bit, bitNumbers, byteOr256, flagOr2, messageNumbers, chargingNumber, cellNumbers, batteryNumbers, modeNumber, noiseNumbers, reportNumbers, capabilityNumbers, equalizerNumbers, deviceNumbers, settingNumbers, listNumbers, tableOf, unvoiced, withinNumbers, shapeNumber};
 
-pub const ABSENT: u64 = 256;
+const ABSENT: u64 = 256;
 
 fn byte_or(b: OptionByte) -> u64
     ensures { λ r. ⌜ r ≡ byteOr256 b ⌝ }
@@ -314,6 +318,43 @@ pub extern "C" fn mdr_support_check(payload: &[u8], values: &mut [u64]) -> u8
     }
 }
 
+fn table_of(n: u8) -> Table
+    ensures { λ r. ⌜ r ≡ tableOf n ⌝ }
+{
+    if n == 1 { Table::One } else { Table::Two }
+}
+
+fn support_told(answer: SupportAnswer, values: &mut [u64]) -> u8
+    ensures { λ r. ⌜ r ≡ statusOf (supportTold answer) ⌝ }
+    ensures { λ _. ⌜ now (values .exit) ≡ told (numbersOf listNumbers (supportTold answer)) (now (values .entry)) ⌝ }
+{
+    match answer {
+        SupportAnswer::Functions { table: _, count } => {
+            let numbers = [count as u64];
+            tell(&numbers, values);
+            0
+        }
+        SupportAnswer::Refused(r) => refuse(r, values),
+    }
+}
+
+#[no_mangle]
+pub extern "C" fn mdr_support_functions(
+    table: u8,
+    payload: &[u8],
+    records: &mut [SupportFunction],
+    values: &mut [u64],
+) -> u8
+    ensures { λ r. ⌜ r ≡ statusOf (supportCall (tableOf table) (now (payload .entry)) (now (records .entry)) .answer) ⌝ }
+    ensures { λ _. ⌜ now (values .exit) ≡ told (numbersOf listNumbers (supportCall (tableOf table) (now (payload .entry)) (now (records .entry)) .answer)) (now (values .entry)) ⌝ }
+    ensures { λ _. ⌜ now (records .exit) ≡ supportCall (tableOf table) (now (payload .entry)) (now (records .entry)) .records ⌝ }
+{
+    support_told(
+        decode_support_functions(table_of(table), payload, records),
+        values,
+    )
+}
+
 #[no_mangle]
 pub extern "C" fn mdr_general_setting(payload: &[u8], values: &mut [u64]) -> u8
     ensures { λ r. ⌜ r ≡ statusOf (settingOf (now (payload .entry))) ⌝ }
@@ -348,15 +389,31 @@ fn range(min: u8, max: u8, step: u8) -> AmbientRange
     }
 }
 
-#[no_mangle]
-pub extern "C" fn mdr_admits(min: u8, max: u8, step: u8, level: i32) -> u8
-    ensures { λ r. ⌜ r ≡ admitsStatus (admitsOf (unvoiced min max step) level) ⌝ }
+fn admits_told(answer: Admitted, values: &mut [u64]) -> u8
+    ensures { λ r. ⌜ r ≡ statusOf (admittedTold answer) ⌝ }
+    ensures { λ _. ⌜ now (values .exit) ≡ told (numbersOf bitNumbers (admittedTold answer)) (now (values .entry)) ⌝ }
 {
-    match range(min, max, step).admits(level) {
-        Admitted::No => 0,
-        Admitted::Yes => 1,
-        Admitted::Refused(r) => r.number(),
+    match answer {
+        Admitted::No => {
+            let numbers = [0];
+            tell(&numbers, values);
+            0
+        }
+        Admitted::Yes => {
+            let numbers = [1];
+            tell(&numbers, values);
+            0
+        }
+        Admitted::Refused(r) => refuse(r, values),
     }
+}
+
+#[no_mangle]
+pub extern "C" fn mdr_admits(min: u8, max: u8, step: u8, level: i32, values: &mut [u64]) -> u8
+    ensures { λ r. ⌜ r ≡ statusOf (admitsOf (unvoiced min max step) level) ⌝ }
+    ensures { λ _. ⌜ now (values .exit) ≡ told (numbersOf bitNumbers (admitsOf (unvoiced min max step) level)) (now (values .entry)) ⌝ }
+{
+    admits_told(range(min, max, step).admits(level), values)
 }
 
 #[no_mangle]

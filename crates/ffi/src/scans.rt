@@ -1,78 +1,78 @@
-// The scanner, its state as two numbers.
+// The scanner. Its state is a struct that the caller keeps and lends.
 use scanner::Found;
 use scanner::OpenAnswer;
 use scanner::PushAnswer;
+use scanner::Scanner;
 use scanner::Sight;
 use scanner::SkipAnswer;
 use scanner::TakeAnswer;
 use telling::refuse;
-use telling::state;
 use telling::tell;
 ghost use mathlib.Core.Path.{_≡_};
+ghost use Rattle.held.specs.Search.{sightOf};
 ghost use Rattle.scanner.specs.Scanner.{openCall, openTold, pushCall, pushTold};
 ghost use Rattle.scanner.specs.Finding.{findCall, foundTold};
 ghost use Rattle.scanner.specs.Skipping.{skipCall, skipTold};
-ghost use Rattle.held.specs.Search.{sightOf};
 ghost use Rattle.scanner.specs.Taking.{takeCall, takeTold};
-ghost use Rattle.telling.specs.Told.{statusOf, numbersOf, told, only, state};
-ghost use Rattle.ffi.specs.Numbers.{spotNumbers, takeNumbers, sightNumber, sightNumbers};
+ghost use Rattle.telling.specs.Told.{statusOf, numbersOf, told};
+ghost use Rattle.ffi.specs.Numbers.{bitNumbers, spotNumbers, sightNumbers};
 
-fn open_told(answer: OpenAnswer, count: usize, values: &mut [u64]) -> u8
+// What a call by value comes to, which the exported call stores and returns.
+pub struct Stated {
+    pub status: u8,
+    pub scanner: Scanner,
+}
+
+fn open_status(answer: OpenAnswer) -> u8
     ensures { λ r. ⌜ r ≡ statusOf (openTold answer) ⌝ }
-    ensures { λ _. ⌜ now (values .exit) ≡ told (numbersOf (λ _. only count) (openTold answer)) (now (values .entry)) ⌝ }
 {
     match answer {
-        OpenAnswer::Open => {
-            let numbers = [count as u64];
-            tell(&numbers, values);
-            0
-        }
-        OpenAnswer::Refused(r) => refuse(r, values),
+        OpenAnswer::Open => 0,
+        OpenAnswer::Refused(r) => r.number(),
     }
 }
 
-#[no_mangle]
-pub extern "C" fn mdr_open(limit: usize, store: &mut [u8], values: &mut [u64]) -> u8
-    ensures { λ r. ⌜ r ≡ statusOf (openCall limit (now (store .entry)) .answer) ⌝ }
-    ensures { λ _. ⌜ now (values .exit) ≡ told (numbersOf (λ _. only (openCall limit (now (store .entry)) .scanner .count)) (openCall limit (now (store .entry)) .answer)) (now (values .entry)) ⌝ }
+fn opened(limit: usize, store: &mut [u8]) -> Stated
+    ensures { λ r. ⌜ r .status ≡ statusOf (openCall limit (now (store .entry)) .answer) ⌝ }
+    ensures { λ r. ⌜ r .scanner ≡ openCall limit (now (store .entry)) .scanner ⌝ }
     ensures { λ _. ⌜ now (store .exit) ≡ openCall limit (now (store .entry)) .store ⌝ }
 {
-    let opened = scanner::open(limit, store);
-    let answer = opened.answer;
-    let next = opened.scanner;
-    open_told(answer, next.count, values)
-}
-
-fn push_told(answer: PushAnswer, count: usize, values: &mut [u64]) -> u8
-    ensures { λ r. ⌜ r ≡ statusOf (pushTold answer) ⌝ }
-    ensures { λ _. ⌜ now (values .exit) ≡ told (numbersOf (λ _. only count) (pushTold answer)) (now (values .entry)) ⌝ }
-{
-    match answer {
-        PushAnswer::Stored => {
-            let numbers = [count as u64];
-            tell(&numbers, values);
-            0
-        }
-        PushAnswer::Refused(r) => refuse(r, values),
+    let o = scanner::open(limit, store);
+    let answer = o.answer;
+    let next = o.scanner;
+    Stated {
+        status: open_status(answer),
+        scanner: next,
     }
 }
 
 #[no_mangle]
-pub extern "C" fn mdr_push(
-    limit: usize,
-    count: usize,
-    store: &mut [u8],
-    piece: &[u8],
-    values: &mut [u64],
-) -> u8
-    ensures { λ r. ⌜ r ≡ statusOf (pushCall (state limit count) (now (store .entry)) (now (piece .entry)) .answer) ⌝ }
-    ensures { λ _. ⌜ now (values .exit) ≡ told (numbersOf (λ _. only (pushCall (state limit count) (now (store .entry)) (now (piece .entry)) .scanner .count)) (pushCall (state limit count) (now (store .entry)) (now (piece .entry)) .answer)) (now (values .entry)) ⌝ }
-    ensures { λ _. ⌜ now (store .exit) ≡ pushCall (state limit count) (now (store .entry)) (now (piece .entry)) .store ⌝ }
+pub extern "C" fn mdr_open(scanner: &mut Scanner, limit: usize, store: &mut [u8]) -> u8
+    ensures { λ r. ⌜ r ≡ statusOf (openCall limit (now (store .entry)) .answer) ⌝ }
+    ensures { λ _. ⌜ now (scanner .exit) ≡ openCall limit (now (store .entry)) .scanner ⌝ }
+    ensures { λ _. ⌜ now (store .exit) ≡ openCall limit (now (store .entry)) .store ⌝ }
 {
-    let pushed = scanner::push(state(limit, count), store, piece);
-    let answer = pushed.answer;
-    let next = pushed.scanner;
-    push_told(answer, next.count, values)
+    let p = opened(limit, store);
+    *scanner = p.scanner;
+    p.status
+}
+
+fn push_status(answer: PushAnswer) -> u8
+    ensures { λ r. ⌜ r ≡ statusOf (pushTold answer) ⌝ }
+{
+    match answer {
+        PushAnswer::Stored => 0,
+        PushAnswer::Refused(r) => r.number(),
+    }
+}
+
+#[no_mangle]
+pub extern "C" fn mdr_push(scanner: &mut Scanner, store: &mut [u8], piece: &[u8]) -> u8
+    ensures { λ r. ⌜ r ≡ statusOf (pushCall (now (scanner .entry)) (now (store .entry)) (now (piece .entry)) .answer) ⌝ }
+    ensures { λ _. ⌜ now (scanner .exit) ≡ pushCall (now (scanner .entry)) (now (store .entry)) (now (piece .entry)) .scanner ⌝ }
+    ensures { λ _. ⌜ now (store .exit) ≡ pushCall (now (scanner .entry)) (now (store .entry)) (now (piece .entry)) .store ⌝ }
+{
+    push_status(scanner.push(store, piece))
 }
 
 fn find_told(answer: Found, values: &mut [u64]) -> u8
@@ -94,26 +94,33 @@ fn find_told(answer: Found, values: &mut [u64]) -> u8
     }
 }
 
-#[no_mangle]
-pub extern "C" fn mdr_find(limit: usize, count: usize, store: &[u8], values: &mut [u64]) -> u8
-    ensures { λ r. ⌜ r ≡ statusOf (findCall (state limit count) (now (store .entry))) ⌝ }
-    ensures { λ _. ⌜ now (values .exit) ≡ told (numbersOf spotNumbers (findCall (state limit count) (now (store .entry)))) (now (values .entry)) ⌝ }
+fn found(scanner: Scanner, store: &[u8], values: &mut [u64]) -> u8
+    ensures { λ r. ⌜ r ≡ statusOf (findCall scanner (now (store .entry))) ⌝ }
+    ensures { λ _. ⌜ now (values .exit) ≡ told (numbersOf spotNumbers (findCall scanner (now (store .entry)))) (now (values .entry)) ⌝ }
 {
-    find_told(scanner::find(state(limit, count), store), values)
+    find_told(scanner::find(scanner, store), values)
 }
 
-fn take_told(answer: TakeAnswer, count: usize, values: &mut [u64]) -> u8
+#[no_mangle]
+pub extern "C" fn mdr_find(scanner: &Scanner, store: &[u8], values: &mut [u64]) -> u8
+    ensures { λ r. ⌜ r ≡ statusOf (findCall (now (scanner .entry)) (now (store .entry))) ⌝ }
+    ensures { λ _. ⌜ now (values .exit) ≡ told (numbersOf spotNumbers (findCall (now (scanner .entry)) (now (store .entry)))) (now (values .entry)) ⌝ }
+{
+    found(*scanner, store, values)
+}
+
+fn take_told(answer: TakeAnswer, values: &mut [u64]) -> u8
     ensures { λ r. ⌜ r ≡ statusOf (takeTold answer) ⌝ }
-    ensures { λ _. ⌜ now (values .exit) ≡ told (numbersOf (takeNumbers count) (takeTold answer)) (now (values .entry)) ⌝ }
+    ensures { λ _. ⌜ now (values .exit) ≡ told (numbersOf bitNumbers (takeTold answer)) (now (values .entry)) ⌝ }
 {
     match answer {
         TakeAnswer::Span => {
-            let numbers = [1, count as u64];
+            let numbers = [1];
             tell(&numbers, values);
             0
         }
         TakeAnswer::Nothing => {
-            let numbers = [0, count as u64];
+            let numbers = [0];
             tell(&numbers, values);
             0
         }
@@ -122,72 +129,73 @@ fn take_told(answer: TakeAnswer, count: usize, values: &mut [u64]) -> u8
 }
 
 #[no_mangle]
-pub extern "C" fn mdr_take(limit: usize, count: usize, store: &mut [u8], values: &mut [u64]) -> u8
-    ensures { λ r. ⌜ r ≡ statusOf (takeCall (state limit count) (now (store .entry)) .answer) ⌝ }
-    ensures { λ _. ⌜ now (values .exit) ≡ told (numbersOf (takeNumbers (takeCall (state limit count) (now (store .entry)) .scanner .count)) (takeCall (state limit count) (now (store .entry)) .answer)) (now (values .entry)) ⌝ }
-    ensures { λ _. ⌜ now (store .exit) ≡ takeCall (state limit count) (now (store .entry)) .store ⌝ }
+pub extern "C" fn mdr_take(scanner: &mut Scanner, store: &mut [u8], values: &mut [u64]) -> u8
+    ensures { λ r. ⌜ r ≡ statusOf (takeCall (now (scanner .entry)) (now (store .entry)) .answer) ⌝ }
+    ensures { λ _. ⌜ now (values .exit) ≡ told (numbersOf bitNumbers (takeCall (now (scanner .entry)) (now (store .entry)) .answer)) (now (values .entry)) ⌝ }
+    ensures { λ _. ⌜ now (scanner .exit) ≡ takeCall (now (scanner .entry)) (now (store .entry)) .scanner ⌝ }
+    ensures { λ _. ⌜ now (store .exit) ≡ takeCall (now (scanner .entry)) (now (store .entry)) .store ⌝ }
 {
-    let taken = scanner::take(state(limit, count), store);
-    let answer = taken.answer;
-    let next = taken.scanner;
-    take_told(answer, next.count, values)
+    take_told(scanner.take(store), values)
 }
 
-fn sight_told(sight: Sight, values: &mut [u64]) -> u8
-    ensures { λ r. ⌜ r ≡ sightNumber sight ⌝ }
+fn sight_told(sight: Sight, values: &mut [u64])
     ensures { λ _. ⌜ now (values .exit) ≡ told (sightNumbers sight) (now (values .entry)) ⌝ }
 {
     match sight {
-        Sight::NoStart => 0,
-        Sight::NoEnd(at) => {
-            let numbers = [at as u64];
+        Sight::NoStart => {
+            let numbers = [0];
             tell(&numbers, values);
-            1
+        }
+        Sight::NoEnd(at) => {
+            let numbers = [1, at as u64];
+            tell(&numbers, values);
         }
         Sight::Both { at, len } => {
-            let numbers = [at as u64, len as u64];
+            let numbers = [2, at as u64, len as u64];
             tell(&numbers, values);
-            2
         }
     }
 }
 
 #[no_mangle]
 pub extern "C" fn mdr_seek(bytes: &[u8], values: &mut [u64]) -> u8
-    ensures { λ r. ⌜ r ≡ sightNumber (sightOf (now (bytes .entry))) ⌝ }
+    ensures { λ r. ⌜ r ≡ 0 ⌝ }
     ensures { λ _. ⌜ now (values .exit) ≡ told (sightNumbers (sightOf (now (bytes .entry)))) (now (values .entry)) ⌝ }
 {
-    sight_told(scanner::seek(bytes), values)
+    sight_told(scanner::seek(bytes), values);
+    0
 }
 
-fn skip_told(answer: SkipAnswer, count: usize, values: &mut [u64]) -> u8
+fn skip_status(answer: SkipAnswer) -> u8
     ensures { λ r. ⌜ r ≡ statusOf (skipTold answer) ⌝ }
-    ensures { λ _. ⌜ now (values .exit) ≡ told (numbersOf (λ _. only count) (skipTold answer)) (now (values .entry)) ⌝ }
 {
     match answer {
-        SkipAnswer::Gone => {
-            let numbers = [count as u64];
-            tell(&numbers, values);
-            0
-        }
-        SkipAnswer::Refused(r) => refuse(r, values),
+        SkipAnswer::Gone => 0,
+        SkipAnswer::Refused(r) => r.number(),
+    }
+}
+
+fn skipped(scanner: Scanner, store: &mut [u8], n: usize) -> Stated
+    ensures { λ r. ⌜ r .status ≡ statusOf (skipCall scanner (now (store .entry)) n .answer) ⌝ }
+    ensures { λ r. ⌜ r .scanner ≡ skipCall scanner (now (store .entry)) n .scanner ⌝ }
+    ensures { λ _. ⌜ now (store .exit) ≡ skipCall scanner (now (store .entry)) n .store ⌝ }
+{
+    let s = scanner::skip(scanner, store, n);
+    let answer = s.answer;
+    let next = s.scanner;
+    Stated {
+        status: skip_status(answer),
+        scanner: next,
     }
 }
 
 #[no_mangle]
-pub extern "C" fn mdr_skip(
-    limit: usize,
-    count: usize,
-    store: &mut [u8],
-    n: usize,
-    values: &mut [u64],
-) -> u8
-    ensures { λ r. ⌜ r ≡ statusOf (skipCall (state limit count) (now (store .entry)) n .answer) ⌝ }
-    ensures { λ _. ⌜ now (values .exit) ≡ told (numbersOf (λ _. only (skipCall (state limit count) (now (store .entry)) n .scanner .count)) (skipCall (state limit count) (now (store .entry)) n .answer)) (now (values .entry)) ⌝ }
-    ensures { λ _. ⌜ now (store .exit) ≡ skipCall (state limit count) (now (store .entry)) n .store ⌝ }
+pub extern "C" fn mdr_skip(scanner: &mut Scanner, store: &mut [u8], n: usize) -> u8
+    ensures { λ r. ⌜ r ≡ statusOf (skipCall (now (scanner .entry)) (now (store .entry)) n .answer) ⌝ }
+    ensures { λ _. ⌜ now (scanner .exit) ≡ skipCall (now (scanner .entry)) (now (store .entry)) n .scanner ⌝ }
+    ensures { λ _. ⌜ now (store .exit) ≡ skipCall (now (scanner .entry)) (now (store .entry)) n .store ⌝ }
 {
-    let skipped = scanner::skip(state(limit, count), store, n);
-    let answer = skipped.answer;
-    let next = skipped.scanner;
-    skip_told(answer, next.count, values)
+    let p = skipped(*scanner, store, n);
+    *scanner = p.scanner;
+    p.status
 }

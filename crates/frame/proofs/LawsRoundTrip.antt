@@ -18,9 +18,9 @@ use Rattle.framing.specs.Framing.{lengthField, summedOf, bodyOf, frameOf, Heade
 use Rattle.base.specs.declared.data_type.DataType.{DataType}
 use Rattle.base.proofs.LawsTests.{by-eqb}
 use Rattle.base.proofs.LawsDataType.{Yielded, returns}
-use Rattle.escaping.proofs.LawsEscaping.{each-byte, special, plain-byte}
+use Rattle.escaping.proofs.LawsEscaping.{each-byte, special, plain-byte, no-shorter}
 use Rattle.escaping.proofs.LawsUnescaping.{unescape-ind}
-use Rattle.framing.proofs.LawsFraming.{mark-next}
+use Rattle.framing.proofs.LawsFraming.{mark-next, unpack-long}
 use Rattle.escaping.proofs.LawsFree.{Free, Bytes, escaped-no-start, escaped-no-end}
 
 -- unescaping undoes escaping
@@ -29,37 +29,29 @@ unfolding unescapeOf escapeeThen
 unescape-byte rest =
     each-byte (λ b e. unescapeOf (e ++ rest) ≡ thenByte b (unescapeOf rest)) refl refl refl (λ b _ n _. rw (ne-eqb b SENTRY n))
 
-pub unescape-escape : (bytes : List ℕ) → unescapeOf (escapeOf bytes) ≡ accepted bytes
+unescape-escape : (bytes : List ℕ) → unescapeOf (escapeOf bytes) ≡ accepted bytes
 unfolding eachOf unescapeOf
 unescape-escape [] = refl
 unescape-escape (b ∷ bs) = unescape-byte (escapeOf bs) b ∙ ap (thenByte b) (unescape-escape bs)
 
--- an escaped form is no shorter
-longer : (bytes : List ℕ) → length bytes ≤ length (escapeOf bytes)
-unfolding eachOf
-longer [] = omega arith
-longer (b ∷ bs) =
-    let one : 1 ≤ length (escapedByte b) = each-byte (λ _ e. 1 ≤ length e) (omega arith) (omega arith) (omega arith) (λ _ _ _ _. omega arith) b in
-    omega (arith, length-append (escapedByte b) (escapeOf bs), longer bs)
-
 -- a frame's parts: its first byte, what stands inside, its last
 module _ (body : List ℕ) where
-  pub frame-length : length (frameOf body) ≡ length (escapeOf body) + 2
+  frame-length : length (frameOf body) ≡ length (escapeOf body) + 2
   unfolding frameOf
   frame-length = omega (arith, length-append (escapeOf body) (END ∷ []))
 
-  pub frame-inner : inner (frameOf body) ≡ escapeOf body
+  frame-inner : inner (frameOf body) ≡ escapeOf body
   unfolding frameOf
   frame-inner = take-at (escapeOf body) (END ∷ []) (length (frameOf body) - 1 - 1) (omega (arith, frame-length))
 
-  pub frame-last : getD (frameOf body) (length (frameOf body) - 1) 0 ≡ END
+  frame-last : getD (frameOf body) (length (frameOf body) - 1) 0 ≡ END
   unfolding frameOf
   frame-last = getD-at (START ∷ escapeOf body) END [] 0 (length (frameOf body) - 1) (omega (arith, frame-length))
 
-  pub unpack-framed : 7 ≤ length body → unpackOf (frameOf body) ≡ bodyChecked body
+  unpack-framed : 7 ≤ length body → unpackOf (frameOf body) ≡ bodyChecked body
   unfolding frameOf
   unpack-framed h =
-      mark-next _ (frameOf body) _ (omega (arith, frame-length, longer body)) refl frame-last
+      mark-next _ (frameOf body) _ (omega (arith, frame-length, no-shorter body)) refl frame-last
       ∙ ap (λ (xs : List ℕ). thenChecked (unescapeOf xs)) frame-inner ∙ ap thenChecked (unescape-escape body)
 
 -- the length field reads back, and four bytes are the field of what they read as
@@ -111,7 +103,7 @@ module _ (kind seq : ℕ) (p : List ℕ) where
   unfolding bodyOf
   length-back h = field-back (length p) h
 
-  pub checked-back : length p ≤ 4294967295 → bodyChecked (bodyOf kind seq p) ≡ accepted (bodyOf kind seq p)
+  checked-back : length p ≤ 4294967295 → bodyChecked (bodyOf kind seq p) ≡ accepted (bodyOf kind seq p)
   unfolding bodyChecked
   checked-back h =
       let n = length (bodyOf kind seq p) in
@@ -124,30 +116,24 @@ module _ (kind seq : ℕ) (p : List ℕ) where
   pub round-trip : length p ≤ 4294967295 → unpackOf (frameOf (bodyOf kind seq p)) ≡ accepted (bodyOf kind seq p)
   round-trip h = unpack-framed (bodyOf kind seq p) (omega (arith, body-length)) ∙ checked-back h
 
--- for the calls: unpacking what pack wrote gives back type, sequence and payload
+-- for the calls: unpacking what pack wrote gives back sequence, payload, and every type that a wire byte reads as
 pub record Back (t : DataType) (seq : ℕ) (p after : List ℕ) (answer : Outcome Header) : Type 0 where
   pub told : answer ≡ accepted (record { kind = t; seq = seq; len = length p })
   pub payload : take (length p) (drop 6 after) ≡ p
 
 module _ (kind seq : ℕ) (p : List ℕ) (h : length p ≤ 4294967295) where
   long : 9 ≤ length (frameOf (bodyOf kind seq p))
-  long = omega (arith, frame-length (bodyOf kind seq p), longer (bodyOf kind seq p), body-length kind seq p)
+  long = omega (arith, frame-length (bodyOf kind seq p), no-shorter (bodyOf kind seq p), body-length kind seq p)
 
   starts : getD (frameOf (bodyOf kind seq p)) 0 0 ≡ START
   unfolding frameOf
   starts = refl
 
-  checks : thenChecked (unescapeOf (inner (frameOf (bodyOf kind seq p)))) ≡ accepted (bodyOf kind seq p)
-  checks =
-      ap (λ (xs : List ℕ). thenChecked (unescapeOf xs)) (frame-inner (bodyOf kind seq p)) ∙ ap thenChecked (unescape-escape (bodyOf kind seq p))
-      ∙ checked-back kind seq p h
-
   pub unpack-call : (work : List ℕ) → length (frameOf (bodyOf kind seq p)) - 2 ≤ length work
       → unpackCall (frameOf (bodyOf kind seq p)) work ≡ unpackBy (accepted (bodyOf kind seq p)) (length work)
-  unfolding unpackCall
   unpack-call work room =
-      mark-next _ (frameOf (bodyOf kind seq p)) _ long starts (frame-last (bodyOf kind seq p))
-      ∙ rw (le-ltb (length work) (length (frameOf (bodyOf kind seq p)) - 2) room, checks)
+      unpack-long (frameOf (bodyOf kind seq p)) work long starts (frame-last (bodyOf kind seq p)) room
+      ∙ ap (λ (o : Outcome (List ℕ)). unpackBy o (length work)) (round-trip kind seq p h)
 
 told-back : (t : DataType) (seq : ℕ) (p : List ℕ) → Yielded t → accepted (headerOf (bodyOf (toWire t) seq p)) ≡ accepted (record { kind = t; seq = seq; len = length p })
 unfolding bodyOf
@@ -212,7 +198,7 @@ pub record Checked (b body : List ℕ) : Type 0 where
   pub sum : carried b ≡ checksumOf (summed b)
   pub len : lengthOf b ≡ length b - 7
 
-pub checked-facts : (b : List ℕ) {body : List ℕ} → bodyChecked b ≡ accepted body → Checked b body
+checked-facts : (b : List ℕ) {body : List ℕ} → bodyChecked b ≡ accepted body → Checked b body
 unfolding bodyChecked
 checked-facts b {body} = go (ltb (length b) 7) refl (eqb (carried b) (checksumOf (summed b))) refl (eqb (lengthOf b) (length b - 7)) refl
   where

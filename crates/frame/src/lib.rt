@@ -2,6 +2,7 @@
 pub use base::DataType;
 pub use base::Refusal;
 pub use base::Written;
+pub use base::block_end;
 pub use base::checksum;
 pub use base::wipe;
 pub use base::wipe_from;

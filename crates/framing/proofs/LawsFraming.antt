@@ -14,7 +14,7 @@ use Rattle.base.specs.Sum.{total, checksumOf}
 use Rattle.base.specs.Writing.{WriteEffect, over, zeros, zeroedFrom, writeCall}
 use Rattle.base.specs.Stored.{Stored}
 use Rattle.escaping.specs.Escaping.{START, END, escapedByte, escapeOf, unescapeOf, unescapeLeft, unescapeCall}
-use Rattle.framing.specs.Framing.{lengthField, bodyOf, frameOf, packCall, Header, lengthOf, bodyChecked, thenChecked, inner, marked, UnpackEffect, unpackBy, unpackCall}
+use Rattle.framing.specs.Framing.{lengthField, bodyOf, frameOf, packCall, Header, lengthOf, bodyChecked, thenChecked, inner, marked, unpackOf, UnpackEffect, unpackBy, unpackCall}
 use Rattle.base.specs.declared.data_type.DataType.{DataType}
 use Rattle.base.proofs.LawsSum.{checksum-append}
 use Rattle.escaping.proofs.LawsEscaping.{each-append, each-width, escaped-width}
@@ -95,6 +95,13 @@ module _ (f w : List ℕ) where
       unpack-end n = mark-end _ f _ long s n
 
       module _ (e : getD f (length f - 1) 0 ≡ END) where
+        -- in a work area that is long enough, by the frame's outcome
+        pub unpack-long : length f - 2 ≤ length w → unpackCall f w ≡ unpackBy (unpackOf f) (length w)
+        unfolding unpackCall
+        unpack-long room =
+            mark-next _ f _ long s e
+            ∙ rw (le-ltb (length w) (length f - 2) room, mark-next (λ n. refused n []) f (thenChecked (unescapeOf (inner f))) long s e)
+
         opened : unpackCall f w ≡ pick (ltb (length w) (length (inner f))) (record { answer = refused 11 []; work = w }) (unpackBy (thenChecked (unescapeOf (inner f))) (length w))
         unfolding unpackCall
         opened = rw (length-inner f) (mark-next _ f _ long s e)

@@ -1,6 +1,5 @@
 -- 01, "Frames": pack, unpack and ack, and the refusals 8 to 18.
 use Prim.Native.Nat.{ℕ, _+_, _-_, _*_, _/_, _%_}
-use mathlib.Core.Bool.{Bool, true, false}
 use mathlib.Core.List.{List, [], _∷_, _++_}
 use lib.ListN.{length, take, drop, getD, replicate}
 use lib.Dec.{ltb, eqb}

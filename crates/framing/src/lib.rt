@@ -1,5 +1,5 @@
 // Whole frames: pack, unpack and ack.
-pub mod framing;
+mod framing;
 
 pub use framing::Unpacked;
 pub use framing::ack;

@@ -1,194 +1,147 @@
-// Shows the misreadings of docs/GRADERS.md. A line of standard input is an example, a word and a frame in hexadecimal,
-// or a heading, which is printed as it stands:
+// Reads frames in words, beside their lines in the log, and shows the misreadings of docs/GRADERS.md. A line of standard input is a
+// word and bytes in hexadecimal, or a heading, which is printed:
 //   start F     a start byte inside the frame F is taken for a new frame
 //   length F    the length is believed before the checksum
 //   noise F     ambient is read where a level is reported
 //   masked F    an address of stars is taken for one that is gone
-//   frame F     no misreading, to compare with
+//   frame F     no misreading
+mod counts;
+mod levels;
+mod misreadings;
+mod parse;
+mod readings;
+mod rules;
 mod say;
+mod shown;
+mod spans;
 
-use frame::Refusal;
-use frame::Unpacked;
-use frame::Written;
-use log::LineAnswer;
-use payload::NoiseAnswer;
-use say::byte;
+use libc::STDERR_FILENO;
+use libc::STDIN_FILENO;
+use misreadings::misread;
+use parse::Given;
+use parse::Word;
+use parse::complain;
+use parse::parsed;
+use parse::trimmed;
+use parse::word_of;
+use say::byte_at;
 use say::bytes;
-use say::level;
 use say::number;
 use say::part;
-use say::reading;
-use say::refusal;
 use say::say;
-use scanner::Found;
-use scanner::Scanner;
+use shown::heading;
+use spans::each_span;
 
-const LIMIT: usize = 1024;
-
+// A frame has at most the bytes of the longest span that the log is sure to have; the other sizes are those of `outlog`.
 fn main() {
     let mut input = replay::room();
-    let mut frame = [0u8; 1024];
-    let mut store = [0u8; 2048];
-    let mut work = [0u8; 2048];
-    let mut out = [0u8; 8192];
-    let n = io::read_full(0, &mut input);
-    each(&input[..n], &mut frame, &mut store, &mut work, &mut out);
+    let room = input.len();
+    let mut frame = [0u8; 8193];
+    let mut store = [0u8; 12288];
+    let mut work = [0u8; 12288];
+    let mut out = [0u8; 49152];
+    try_input();
+    let n = io::read_full(STDIN_FILENO, &mut input);
+    each(
+        &input[..n],
+        is_cut(n, room),
+        &mut frame,
+        &mut store,
+        &mut work,
+        &mut out,
+    );
+}
+
+// Reads nothing, to tell a standard input that cannot be read from one that is empty.
+fn try_input() {
+    let mut one = [0u8; 1];
+    if libc::read(STDIN_FILENO, &mut one[..0]) < 0 {
+        io::write_all(STDERR_FILENO, b"graders: cannot read standard input\n");
+    }
+}
+
+// Whether standard input has more than was read.
+fn is_cut(n: usize, room: usize) -> bool {
+    if n < room {
+        return false;
+    }
+    let mut one = [0u8; 1];
+    libc::read(STDIN_FILENO, &mut one) > 0
 }
 
 // No line is shorter than a byte, so there are no more turns than bytes.
-fn each(input: &[u8], frame: &mut [u8], store: &mut [u8], work: &mut [u8], out: &mut [u8]) {
+fn each(
+    input: &[u8],
+    cut: bool,
+    frame: &mut [u8],
+    store: &mut [u8],
+    work: &mut [u8],
+    out: &mut [u8],
+) {
     let mut at = 0;
+    let mut line = 1;
     let mut turns = input.len();
     while turns > 0 {
-        let n = replay::hex_field(input, at, 1, frame);
-        row(input, at, part(frame, 0, n), store, work, out);
-        at = replay::next_line(input, at);
+        let next = replay::next_line(input, at);
+        if !is_whole(input, at, next, cut) {
+            break;
+        }
+        one_line(line, stretch(input, at, next), frame, store, work, out);
+        at = next;
+        line = std::num::wrapping_add_usize(line, 1);
         turns -= 1;
     }
-}
-
-fn row(input: &[u8], at: usize, frame: &[u8], store: &mut [u8], work: &mut [u8], out: &mut [u8]) {
-    let word = replay::letter(input, at);
-    match word {
-        b's' | b'l' | b'n' | b'm' | b'f' => example(word, frame, store, work, out),
-        _ => heading(input, at),
+    if cut {
+        not_read(line, input.len());
     }
 }
 
-fn heading(input: &[u8], at: usize) {
-    let end = replay::next_line(input, at);
-    if at < end {
-        say(part(input, at, end - at));
+// The bytes from a place up to the next.
+fn stretch(input: &[u8], at: usize, next: usize) -> &[u8] {
+    part(input, at, std::num::wrapping_sub_usize(next, at))
+}
+
+// Whether a line is there and, where the input was cut, has its end.
+fn is_whole(input: &[u8], at: usize, next: usize, cut: bool) -> bool {
+    if at >= input.len() {
+        return false;
+    }
+    !cut || byte_at(input, std::num::wrapping_sub_usize(next, 1)) == b'\n'
+}
+
+fn not_read(line: usize, room: usize) {
+    say(b"what is wrong: line ");
+    number(line);
+    say(b" and those behind it are not read, since standard input has more than ");
+    number(room);
+    say(b" bytes\n");
+}
+
+fn one_line(
+    nth: usize,
+    line: &[u8],
+    frame: &mut [u8],
+    store: &mut [u8],
+    work: &mut [u8],
+    out: &mut [u8],
+) {
+    let text = trimmed(line);
+    let word = word_of(text);
+    if let Word::NoWord = word {
+        heading(text);
+        return;
+    }
+    match parsed(text, frame) {
+        Given::Bytes(n) => example(word, part(frame, 0, n), store, work, out),
+        Given::Wrong(fault) => complain(nth, fault),
     }
 }
 
-fn example(word: u8, frame: &[u8], store: &mut [u8], work: &mut [u8], out: &mut [u8]) {
-    say(b"bytes  ");
-    bytes(frame);
-    misread(word, frame, store, work);
-    say(b"\nright  ");
-    judge(scanned(frame, store), store, 0, work);
-    say(b"\nlog    ");
-    logged(frame, store, work, out);
-}
-
-fn misread(word: u8, frame: &[u8], store: &mut [u8], work: &mut [u8]) {
-    match word {
-        b's' => restarted(frame, store, work),
-        b'l' => length_first(frame, work),
-        b'n' => level_first(frame, work),
-        b'm' => stars_first(frame, work),
-        _ => {}
-    }
-}
-
-// A fresh scanner that was given some bytes.
-fn scanned(given: &[u8], store: &mut [u8]) -> Scanner {
-    let fresh = scanner::open(LIMIT, store).scanner;
-    scanner::push(fresh, store, given).scanner
-}
-
-// The first span held, its bytes counted from 1 on, and what it is.
-fn judge(scanner: Scanner, store: &[u8], skipped: usize, work: &mut [u8]) {
-    match scanner::find(scanner, store) {
-        Found::At { at, len } => {
-            let before = std::num::wrapping_add_usize(skipped, at);
-            say(b"bytes ");
-            number(std::num::wrapping_add_usize(before, 1));
-            say(b" to ");
-            number(std::num::wrapping_add_usize(before, len));
-            unpacked(scanner::look(scanner, store), work);
-        }
-        Found::Nothing => say(b"no span"),
-        Found::Refused(r) => refusal(r),
-    }
-}
-
-fn unpacked(span: &[u8], work: &mut [u8]) {
-    say(b", ");
-    match frame::unpack(span, work) {
-        Unpacked::Frame {
-            data_type,
-            seq: _,
-            len,
-        } => {
-            say(b"a frame of type ");
-            byte(data_type.to_wire());
-            say(b": ");
-            reading(part(work, 6, len));
-        }
-        Unpacked::Refused(r) => refusal(r),
-    }
-}
-
-// The log's line, which ends with a newline.
-fn logged(frame: &[u8], store: &mut [u8], work: &mut [u8], out: &mut [u8]) {
+fn example(word: Word, given: &[u8], store: &mut [u8], work: &mut [u8], out: &mut [u8]) {
     let plan = log::house_plan();
-    let scanner = scanned(frame, store);
-    let answer = log::line(scanner, store, &plan, work, out).answer;
-    match answer {
-        LineAnswer::Line(n) => say(part(out, 0, n)),
-        LineAnswer::Nothing => say(b"no line\n"),
-        LineAnswer::Refused(_) => say(b"a line was refused\n"),
-    }
-}
-
-// A reader who begins again at the next start byte.
-fn restarted(frame: &[u8], store: &mut [u8], work: &mut [u8]) {
-    say(b"\nwrong  a new frame begins at the 3E inside: ");
-    if frame.len() > 0 {
-        judge(scanned(&frame[1..], store), store, 1, work);
-    }
-}
-
-// The body goes to the work area, its checksum and length untested; the answer is the length of the payload that is there.
-fn untested(frame: &[u8], work: &mut [u8]) -> usize {
-    let n = frame.len();
-    if n < 2 {
-        return 0;
-    }
-    match frame::unescape(&frame[1..n - 1], work) {
-        Written::Bytes(len) => {
-            if len < 7 {
-                return 0;
-            }
-            len - 7
-        }
-        Written::Refused(_) => 0,
-    }
-}
-
-// A reader who tests the length and not the checksum.
-fn length_first(frame: &[u8], work: &mut [u8]) {
-    say(b"\nwrong  ");
-    let actual = untested(frame, work);
-    if work.len() > 5 {
-        let declared = declared_len(work[2], work[3], work[4], work[5]);
-        if declared == actual {
-            say(b"the length fits");
-        } else {
-            refusal(Refusal::LengthMismatch { declared, actual });
-        }
-    }
-}
-
-fn declared_len(a: u8, b: u8, c: u8, d: u8) -> usize {
-    (a as usize) * 16777216 + (b as usize) * 65536 + (c as usize) * 256 + (d as usize)
-}
-
-// A reader to whom a level means ambient.
-fn level_first(frame: &[u8], work: &mut [u8]) {
-    say(b"\nwrong  ambient");
-    let len = untested(frame, work);
-    if let NoiseAnswer::Report(r) = payload::decode_noise(part(work, 6, len)) {
-        let reported = r.ambient_level;
-        level(reported);
-    }
-}
-
-// A reader who looks at the stars and not at the checksum.
-fn stars_first(frame: &[u8], work: &mut [u8]) {
-    say(b"\nwrong  the phone is gone: ");
-    let len = untested(frame, work);
-    reading(part(work, 6, len));
+    say(b"bytes  ");
+    bytes(given);
+    say(b"\n");
+    misread(word, given, &plan, work);
+    each_span(given, &plan, store, work, out);
 }

@@ -1,12 +1,4 @@
-// What is printed, in words. Bytes are in hexadecimal, sixteen to a row.
-use frame::Refusal;
-use paired::PairedLookup;
-use payload::BatteryAnswer;
-use payload::NoiseAnswer;
-use payload::NoiseMode;
-use payload::OptionByte;
-use payload::OptionCell;
-
+// What is printed: words, numbers, and bytes in hexadecimal, sixteen to a row.
 pub fn say(words: &[u8]) {
     io::write_all(1, words);
 }
@@ -25,12 +17,18 @@ pub fn byte(b: u8) {
     say(&pair);
 }
 
-fn gap(i: usize) {
+// The next row below a label.
+pub fn row() {
+    say(b"\n       ");
+}
+
+// What stands before an item of a list: a blank, or a new row.
+pub fn gap(i: usize) {
     if i == 0 {
         return;
     }
     if i % 16 == 0 {
-        say(b"\n       ");
+        row();
     } else {
         say(b" ");
     }
@@ -45,6 +43,41 @@ pub fn bytes(s: &[u8]) {
     }
 }
 
+pub fn yes_or_no(yes: bool) {
+    if yes {
+        say(b"yes");
+    } else {
+        say(b"no");
+    }
+}
+
+// So many of a thing.
+pub fn counted(n: usize, thing: &[u8]) {
+    if n == 0 {
+        say(b"no");
+    } else {
+        number(n);
+    }
+    say(b" ");
+    say(thing);
+    if n != 1 {
+        say(b"s");
+    }
+}
+
+// Places are counted from 1 on.
+pub fn place(i: usize) {
+    number(std::num::wrapping_add_usize(i, 1));
+}
+
+// So many bytes behind so many others.
+pub fn from_to(before: usize, len: usize) {
+    say(b"bytes ");
+    place(before);
+    say(b" to ");
+    number(std::num::wrapping_add_usize(before, len));
+}
+
 // So many bytes from a place on, or none where there are fewer.
 pub fn part(s: &[u8], at: usize, len: usize) -> &[u8] {
     if s.len() < at {
@@ -56,87 +89,7 @@ pub fn part(s: &[u8], at: usize, len: usize) -> &[u8] {
     &s[at..at + len]
 }
 
-// The number as the log prints it, and what three of them mean.
-pub fn refusal(r: Refusal) {
-    let n = r.number();
-    say(b"refused ");
-    number((n / 10) as usize);
-    number((n % 10) as usize);
-    match r {
-        Refusal::TooShort => say(b": fewer than 9 bytes"),
-        Refusal::BadChecksum { declared, computed } => {
-            say(b": it carries the checksum ");
-            byte(declared);
-            say(b", its bytes add up to ");
-            byte(computed);
-        }
-        Refusal::LengthMismatch { declared, actual } => {
-            say(b": the length says ");
-            number(declared);
-            say(b", the payload has ");
-            number(actual);
-        }
-        _ => say(b""),
-    }
-}
-
-// The reading of a payload, by its command.
-pub fn reading(payload: &[u8]) {
-    if payload.len() == 0 {
-        return;
-    }
-    match payload[0] {
-        0x23 => battery(payload),
-        0x67 => noise(payload),
-        0x37 => phone(payload),
-        _ => say(b"another message"),
-    }
-}
-
-fn battery(payload: &[u8]) {
-    match payload::decode_battery(payload) {
-        BatteryAnswer::Report(r) => {
-            let main = r.main;
-            if let OptionCell::Present(cell) = main {
-                say(b"battery ");
-                number(cell.level as usize);
-            }
-        }
-        BatteryAnswer::Refused(r) => refusal(r),
-    }
-}
-
-fn noise(payload: &[u8]) {
-    match payload::decode_noise(payload) {
-        NoiseAnswer::Report(r) => {
-            let mode = r.mode;
-            let reported = r.ambient_level;
-            match mode {
-                NoiseMode::Off => say(b"off; the report has"),
-                NoiseMode::Anc => say(b"noise cancelling; the report has"),
-                NoiseMode::Ambient => say(b"ambient"),
-            }
-            level(reported);
-        }
-        NoiseAnswer::Refused(r) => refusal(r),
-    }
-}
-
-pub fn level(reported: OptionByte) {
-    if let OptionByte::Byte(b) = reported {
-        say(b" level ");
-        number(b as usize);
-    }
-}
-
-fn phone(payload: &[u8]) {
-    match paired::paired_device(payload, 0) {
-        PairedLookup::Device(d) => {
-            say(b"address ");
-            say(part(payload, d.address, 17));
-            say(b", name ");
-            say(part(payload, d.name, d.len));
-        }
-        PairedLookup::Refused(r) => refusal(r),
-    }
+// The byte at a place, or 0 behind the end.
+pub fn byte_at(s: &[u8], i: usize) -> u8 {
+    if i < s.len() { s[i] } else { 0 }
 }

@@ -26,12 +26,12 @@ pub record Leads (p : Place) (bs : List ℕ) (out : List (List ℕ)) (q : Place)
   pub gives : spansFrom p bs ≡ out
   pub place : after p bs ≡ q
 
-pub leads-append : {p q r : Place} {xs ys : List ℕ} {out more : List (List ℕ)} → Leads p xs out q → Leads q ys more r → Leads p (xs ++ ys) (out ++ more) r
+leads-append : {p q r : Place} {xs ys : List ℕ} {out more : List (List ℕ)} → Leads p xs out q → Leads q ys more r → Leads p (xs ++ ys) (out ++ more) r
 leads-append {p} {q} {r} {xs} {ys} a b =
     record { gives = rw (spans-append p xs ys, a .gives, a .place, b .gives); place = rw (after-append p xs ys, a .place, b .place) }
 
 -- no START: still outside; no END: still inside, these bytes more
-pub spans-before : (xs : List ℕ) → Free START xs → Leads outside xs [] outside
+spans-before : (xs : List ℕ) → Free START xs → Leads outside xs [] outside
 spans-before [] f = record { gives = refl; place = refl }
 spans-before (x ∷ xs) f =
     let r = spans-before xs (f .1) in
@@ -44,14 +44,14 @@ spans-within s (x ∷ xs) f =
     record { gives = rw (f .0) (r .gives); place = rw (f .0, ← append-snoc s x xs) (r .place) }
 
 -- from outside over a START, from inside over an END
-pub over-start : (xs : List ℕ) → Free START xs → Leads outside (xs ++ (START ∷ [])) [] (inside (START ∷ []))
+over-start : (xs : List ℕ) → Free START xs → Leads outside (xs ++ (START ∷ [])) [] (inside (START ∷ []))
 over-start xs f = leads-append (spans-before xs f) (record { gives = refl; place = refl })
 
 pub over-end : (s xs : List ℕ) → Free END xs → Leads (inside s) (xs ++ (END ∷ [])) ((s ++ xs ++ (END ∷ [])) ∷ []) outside
 over-end s xs f = leads-append (spans-within s xs f) (record { gives = refl; place = refl })
 
 -- a span by itself: its bytes are its only span
-pub spans-frame : (xs : List ℕ) → Free END xs → Leads outside (spanOf xs) (spanOf xs ∷ []) outside
+spans-frame : (xs : List ℕ) → Free END xs → Leads outside (spanOf xs) (spanOf xs ∷ []) outside
 spans-frame xs f = leads-append (over-start [] tt) (over-end (START ∷ []) xs f)
 
 -- a packed frame is one span

@@ -1,6 +1,6 @@
 // What can be said of held bytes without the scanner's state: their first span, and letting bytes go.
-pub mod going;
-pub mod search;
+mod going;
+mod search;
 
 pub use going::let_go;
 pub use search::Sight;

@@ -1,6 +1,7 @@
 // The first span among held bytes.
 use frame::END;
 use frame::START;
+use frame::block_end;
 ghost use mathlib.Core.Path.{_≡_};
 ghost use Prim.Native.Nat.{_+_, _≤_, _<_, min};
 ghost use lib.ListN.{length, drop};
@@ -8,13 +9,8 @@ ghost use lib.Dec.{eqb};
 ghost use Rattle.base.specs.Outcome.{pick};
 ghost use Rattle.held.specs.Search.{firstOf, sightOf};
 
-// Where the block from `from` on ends that is searched at once.
-fn block_end(from: usize, len: usize) -> usize
-    requires { ⌜ from < len ⌝ }
-    ensures { λ r. ⌜ (from < r) × (r ≤ len) × (r ≤ from + 64) ⌝ }
-{
-    if len - from <= 64 { len } else { from + 64 }
-}
+// How many bytes are searched at once.
+const BLOCK: usize = 64;
 
 // `at` where `x` is `b`; else what lies behind every block.
 fn place_if(x: u8, b: u8, at: u8) -> u8
@@ -56,7 +52,7 @@ fn position(bytes: &[u8], from: usize, b: u8) -> usize
     }
     let mut i = from;
     while i < bytes.len() {
-        let end = block_end(i, bytes.len());
+        let end = block_end(i, bytes.len(), BLOCK);
         let place = first_in(&bytes[i..end], b);
         if place < end - i {
             return i + place;

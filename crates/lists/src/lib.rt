@@ -7,8 +7,6 @@ pub use equalizer::gain;
 pub use support::SupportAnswer;
 pub use support::SupportCheck;
 pub use support::SupportFunction;
-pub use support::SupportRecord;
 pub use support::Table;
 pub use support::check_support_functions;
 pub use support::decode_support_functions;
-pub use support::support_record;

@@ -29,7 +29,7 @@ cancellingOf NoByte (Byte switch) = eqb switch 0x01
 cancellingOf NoByte NoByte = false
 
 -- "else Ambient if the layout has an ambient byte, else Off"
-abbrev pub elseOf : OptionByte → NoiseMode
+abbrev elseOf : OptionByte → NoiseMode
 elseOf (Byte ambient) = Ambient
 elseOf NoByte = Off
 

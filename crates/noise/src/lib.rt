@@ -1,5 +1,5 @@
 // What the noise control does, as a message reports it.
-pub mod noise;
+mod noise;
 
 pub use noise::NoiseAnswer;
 pub use noise::NoiseMode;

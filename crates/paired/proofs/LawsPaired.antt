@@ -11,7 +11,7 @@ use Rattle.reading.proofs.LawsReading.{was-read}
 use Rattle.paired.specs.Paired.{deviceEnd, countOf, startOf, pairedOf}
 
 -- there are as many devices as its count says, and one byte behind them
-pub was-accepted : (p : List ℕ) (n : ℕ) → pairedOf p ≡ accepted n → (countOf p ≡ n) × (startOf p n + 1 ≡ length p)
+was-accepted : (p : List ℕ) (n : ℕ) → pairedOf p ≡ accepted n → (countOf p ≡ n) × (startOf p n + 1 ≡ length p)
 was-accepted p n t =
     let w = was-read _ _ _ p n t in
     let e : countOf p ≡ n = cc in

@@ -1,5 +1,5 @@
 // The devices that a headset is paired with, their names as text, and the payload with both masked.
-pub mod paired;
+mod paired;
 
 pub use paired::PairedDevice;
 pub use paired::PairedDevices;

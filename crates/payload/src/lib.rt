@@ -1,5 +1,5 @@
 // The payload of a frame: its message, and the readings of fixed length.
-pub mod setting;
+mod setting;
 
 pub use battery::BatteryAnswer;
 pub use battery::BatteryReport;

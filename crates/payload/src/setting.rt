@@ -3,11 +3,11 @@ use frame::Refusal;
 ghost use mathlib.Core.Path.{_≡_};
 ghost use Rattle.payload.specs.Setting.{settingTold, settingOf};
 
-pub const GS_BOOLEAN_TYPE: u8 = 0x00;
+const GS_BOOLEAN_TYPE: u8 = 0x00;
 // On is zero.
-pub const GS_ON: u8 = 0x00;
+const GS_ON: u8 = 0x00;
 
-pub const GS_OFF: u8 = 0x01;
+const GS_OFF: u8 = 0x01;
 
 pub struct GeneralSettingParam {
     pub slot: u8,

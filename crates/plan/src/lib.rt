@@ -1,5 +1,5 @@
 // Plans: which decoder reads a payload.
-pub mod plan;
+mod plan;
 
 pub use plan::entry;
 pub use plan::house_plan;

@@ -3,11 +3,11 @@ ghost use mathlib.Core.Path.{_≡_};
 ghost use lib.ListN.{getD};
 ghost use Rattle.plan.specs.Plan.{planFine, entryOf, housePlan};
 
-pub const PLAN_LEN: usize = 512;
+const PLAN_LEN: usize = 512;
 
-pub const TABLE_LEN: usize = 256;
+const TABLE_LEN: usize = 256;
 
-pub const LAST_ENTRY: u8 = 7;
+const LAST_ENTRY: u8 = 7;
 
 pub fn house_plan() -> [u8; 512]
     ensures { λ r. ⌜ r ≡ housePlan ⌝ }

@@ -1,5 +1,5 @@
 // A range of ambient levels.
-pub mod range;
+mod range;
 
 pub use range::Admitted;
 pub use range::AmbientRange;

@@ -4,7 +4,6 @@ use native.Mathlib.Nat.{le-of-suc-le-suc}
 use mathlib.Core.Path.{_≡_, refl, ap}
 use mathlib.Core.List.{List}
 use native.Mathlib.Omega.{arith}
-use lib.ListN.{length}
 use Rattle.reading.specs.Items.{Size, fixed, walk}
 
 module _ (size : Size) (p : List ℕ) where
@@ -32,7 +31,7 @@ module _ (size : Size) (p : List ℕ) where
   walk-last zero at = refl
   walk-last (suc n) at = walk-last n (at + size p at)
 
-  pub walk-mono : (k n at : ℕ) → k ≤ n → walk size p k at ≤ walk size p n at
+  walk-mono : (k n at : ℕ) → k ≤ n → walk size p k at ≤ walk size p n at
   unfolding walk
   walk-mono zero n at h = walk-grows n at
   walk-mono (suc k) zero at h = absurd (omega arith)

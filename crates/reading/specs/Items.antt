@@ -1,5 +1,5 @@
 -- 01, "Messages and decoders": the walk over the items of a payload, and how its length follows from them.
-use Prim.Native.Nat.{ℕ, zero, suc, _+_, _-_}
+use Prim.Native.Nat.{ℕ, zero, suc, _+_}
 use mathlib.Core.List.{List}
 use lib.ListN.{getD}
 

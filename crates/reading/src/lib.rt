@@ -1,6 +1,6 @@
 // What a payload is, and the walk over its counted items: under every reading.
-pub mod items;
-pub mod message;
+mod items;
+mod message;
 
 pub use items::items_end;
 pub use message::Message;

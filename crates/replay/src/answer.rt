@@ -1,4 +1,5 @@
 // Printing an answer into a text that is written out when it has grown long.
+use crate::cases::first;
 use crate::rule::mix_first;
 use frame::Refusal;
 
@@ -94,25 +95,24 @@ fn two(text: &mut [u8], at: usize, first: u64, second: u64) -> usize {
 }
 
 // Ends an answer's line, in the place of the last word's blank.
-pub fn finish(text: &mut [u8], at: usize) -> usize {
+fn finish(text: &mut [u8], at: usize) -> usize {
     if at == 0 {
         return put(text, at, b'\n');
     }
     put(text, at - 1, b'\n')
 }
 
-// Writes out the first bytes of the text, where there are at least so many, and gives the next place.
-pub fn flush(text: &[u8], at: usize, least: usize) -> usize {
-    if at < least {
-        return at;
+// Ends an answer's line; a text that has grown long is written out. The next place.
+pub fn end_line(text: &mut [u8], at: usize) -> usize {
+    let end = finish(text, at);
+    if end < 32768 {
+        return end;
     }
-    write_first(text, at);
+    flush(text, end);
     0
 }
 
-fn write_first(text: &[u8], n: usize) {
-    if n <= text.len() {
-        let first = &text[..n];
-        io::write_all(1, first);
-    }
+// Writes out the first bytes of the text.
+pub fn flush(text: &[u8], n: usize) {
+    io::write_all(1, first(text, n));
 }

@@ -1,6 +1,6 @@
-// Reading the fields of a case. A case is a line: a letter and fields, each after one blank.
+// Reading the fields of a case, and the part of a buffer that a field asks for. A case is a line: a letter and fields, each after one blank.
 ghost use mathlib.Core.Path.{_≡_};
-ghost use Prim.Native.Nat.{_<_};
+ghost use Prim.Native.Nat.{_<_, _≤_};
 ghost use lib.ListN.{length};
 use crate::answer::put;
 
@@ -9,6 +9,23 @@ pub fn room() -> [u8; 1048576]
     ensures { λ r. ⌜ 1048576 ≡ length r ⌝ }
 {
     [0; 1048576]
+}
+
+fn least(x: usize, y: usize) -> usize
+    ensures { λ r. ⌜ r ≤ y ⌝ }
+{
+    if x < y { x } else { y }
+}
+
+// The first n bytes of a buffer: all of it where it has fewer.
+pub fn first(s: &[u8], n: usize) -> &[u8] {
+    let end = least(n, s.len());
+    &s[0..end]
+}
+
+pub fn first_mut(s: &mut [u8], n: usize) -> &mut [u8] {
+    let end = least(n, s.len());
+    &mut s[0..end]
 }
 
 fn at_or_end(input: &[u8], at: usize) -> u8 {
@@ -21,7 +38,9 @@ pub fn letter(input: &[u8], at: usize) -> u8 {
 }
 
 // Where the line after this place begins.
-pub fn next_line(input: &[u8], at: usize) -> usize {
+pub fn next_line(input: &[u8], at: usize) -> usize
+    ensures { λ r. ⌜ (at < length (now (input .entry)) → at < r) ⌝ }
+{
     let mut i = at;
     while i < input.len() {
         if input[i] == b'\n' {
@@ -82,6 +101,11 @@ pub fn number_field(input: &[u8], at: usize, which: usize) -> usize {
         i += 1;
     }
     value
+}
+
+// The number in a field, as a byte.
+pub fn byte_field(input: &[u8], at: usize, which: usize) -> u8 {
+    (number_field(input, at, which) % 256) as u8
 }
 
 // A hexadecimal digit's value, or 16.

@@ -5,6 +5,8 @@ use frame::Unpacked;
 use frame::Written;
 use replay::bytes;
 use replay::fill;
+use replay::first;
+use replay::first_mut;
 use replay::mix_first;
 use replay::number;
 use replay::put;
@@ -33,32 +35,28 @@ fn unpacked(text: &mut [u8], k: usize, u: Unpacked) -> usize {
     }
 }
 
-pub fn escape_into(src: &[u8], out: &mut [u8], text: &mut [u8], k: usize) -> usize {
-    fill(out, 84);
-    let w = frame::escape(src, out);
-    let next = written(text, k, w);
-    bytes(text, next, out)
+// A call that is lent one buffer.
+pub enum Call {
+    Escape,
+    Unescape,
+    Unpack,
+    Ack(u8),
 }
 
-pub fn unescape_into(src: &[u8], out: &mut [u8], text: &mut [u8], k: usize) -> usize {
-    fill(out, 84);
-    let w = frame::unescape(src, out);
-    let next = written(text, k, w);
-    bytes(text, next, out)
+fn answered(call: Call, src: &[u8], out: &mut [u8], text: &mut [u8], k: usize) -> usize {
+    match call {
+        Call::Escape => written(text, k, frame::escape(src, out)),
+        Call::Unescape => written(text, k, frame::unescape(src, out)),
+        Call::Unpack => unpacked(text, k, frame::unpack(src, out)),
+        Call::Ack(seq) => written(text, k, frame::ack(seq, out)),
+    }
 }
 
-pub fn ack_into(seq: u8, out: &mut [u8], text: &mut [u8], k: usize) -> usize {
+// The call's answer, and all that the buffer holds after it.
+pub fn call_into(call: Call, src: &[u8], out: &mut [u8], text: &mut [u8], k: usize) -> usize {
     fill(out, 84);
-    let w = frame::ack(seq, out);
-    let next = written(text, k, w);
+    let next = answered(call, src, out, text, k);
     bytes(text, next, out)
-}
-
-pub fn unpack_into(src: &[u8], work: &mut [u8], text: &mut [u8], k: usize) -> usize {
-    fill(work, 84);
-    let u = frame::unpack(src, work);
-    let next = unpacked(text, k, u);
-    bytes(text, next, work)
 }
 
 // The length of what was written, 0 where it was refused.
@@ -104,10 +102,7 @@ fn unpack_first(out: &[u8], n: usize, work: &mut [u8], text: &mut [u8], k: usize
     if n == 0 {
         return k;
     }
-    if n > out.len() {
-        return k;
-    }
-    unpack_into(&out[..n], work, text, k)
+    call_into(Call::Unpack, first(out, n), work, text, k)
 }
 
 // One of the 256 bytes, or of the seven.
@@ -138,19 +133,9 @@ pub fn unescape_next(
     let mut i = 0;
     while i < count {
         let m = put(src, n, byte_of(i, count));
-        let k = unescape_front(src, m, out, line);
+        let k = call_into(Call::Unescape, first(src, m), first_mut(out, m), line, 0);
         sum = mix_first(sum, line, k);
         i += 1;
     }
     sum
-}
-
-fn unescape_front(src: &[u8], n: usize, out: &mut [u8], line: &mut [u8]) -> usize {
-    if n > src.len() {
-        return 0;
-    }
-    if n > out.len() {
-        return 0;
-    }
-    unescape_into(&src[..n], &mut out[..n], line, 0)
 }

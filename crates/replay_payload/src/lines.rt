@@ -3,8 +3,12 @@ use crate::calls::reading;
 use crate::ranges::admits_all;
 use crate::ranges::within_all;
 use crate::strings::texts;
+use capability::AmbientRange;
 use lists::Table;
-use replay::finish;
+use replay::byte_field;
+use replay::end_line;
+use replay::first;
+use replay::first_mut;
 use replay::flush;
 use replay::hex_field;
 use replay::letter;
@@ -23,34 +27,15 @@ pub fn run(input: &[u8]) {
     each(input, &mut kept, &mut records, &mut scratch, &mut text);
 }
 
-// No case is shorter than a byte, so there are no more turns than bytes.
 fn each(input: &[u8], kept: &mut [u8], records: &mut [u8], scratch: &mut [u8], text: &mut [u8]) {
     let mut at = 0;
     let mut k = 0;
-    let mut turns = input.len();
-    while turns > 0 {
-        k = line(input, at, kept, records, scratch, text, k);
+    while at < input.len() {
+        let next = answer(input, at, kept, records, scratch, text, k);
+        k = end_line(text, next);
         at = next_line(input, at);
-        turns -= 1;
     }
-    flush(text, k, 0);
-}
-
-fn line(
-    input: &[u8],
-    at: usize,
-    kept: &mut [u8],
-    records: &mut [u8],
-    scratch: &mut [u8],
-    text: &mut [u8],
-    k: usize,
-) -> usize {
-    if at >= input.len() {
-        return k;
-    }
-    let next = answer(input, at, kept, records, scratch, text, k);
-    let end = finish(text, next);
-    flush(text, end, 32768)
+    flush(text, k);
 }
 
 fn answer(
@@ -66,40 +51,33 @@ fn answer(
         b'k' => number(text, k, hex_field(input, at, 1, kept) as u64),
         b'x' => change(input, at, kept, text, k),
         b'v' => values(input, at, kept, records, scratch, text, k),
-        b'a' => admits_all(
-            first(input, at),
-            second(input, at),
-            third(input, at),
+        b'a' => admits_all(range_of(input, at), text, k),
+        b'w' => within_all(range_of(input, at), text, k),
+        b't' => texts(
+            number_field(input, at, 1),
+            byte_field(input, at, 2),
+            kept,
             text,
             k,
         ),
-        b'w' => within_all(
-            first(input, at),
-            second(input, at),
-            third(input, at),
-            text,
-            k,
-        ),
-        b't' => texts(number_field(input, at, 1), second(input, at), kept, text, k),
         op => one(op, input, at, kept, records, text, k),
     }
 }
 
-fn first(input: &[u8], at: usize) -> u8 {
-    (number_field(input, at, 1) % 256) as u8
-}
-
-fn second(input: &[u8], at: usize) -> u8 {
-    (number_field(input, at, 2) % 256) as u8
-}
-
-fn third(input: &[u8], at: usize) -> u8 {
-    (number_field(input, at, 3) % 256) as u8
+// The range MIN, MAX, STEP, with a voice where the step is odd.
+fn range_of(input: &[u8], at: usize) -> AmbientRange {
+    let step = byte_field(input, at, 3);
+    AmbientRange {
+        voice: step % 2 == 1,
+        min: byte_field(input, at, 1),
+        max: byte_field(input, at, 2),
+        step,
+    }
 }
 
 fn change(input: &[u8], at: usize, kept: &mut [u8], text: &mut [u8], k: usize) -> usize {
     let place = number_field(input, at, 1);
-    put(kept, place, second(input, at));
+    put(kept, place, byte_field(input, at, 2));
     word(text, k, b"set")
 }
 
@@ -119,14 +97,17 @@ fn one(
     let n = number_field(input, at, 1);
     let m = number_field(input, at, 2);
     let table = table_of(number_field(input, at, 3));
-    if n > kept.len() {
-        return k;
-    }
     if m > records.len() / 2 {
         return k;
     }
-    let lent = &mut records[..2 * m];
-    reading(op, table, &kept[..n], lent, text, k)
+    reading(
+        op,
+        table,
+        first(kept, n),
+        first_mut(records, 2 * m),
+        text,
+        k,
+    )
 }
 
 // The reading for each byte at a place.
@@ -146,16 +127,9 @@ fn values(
     let mut b: usize = 0;
     while b < 256 {
         put(kept, place, (b % 256) as u8);
-        let end = of_first(op, kept, n, records, scratch);
+        let end = reading(op, Table::One, first(kept, n), records, scratch, 0);
         sum = mix_first(sum, scratch, end);
         b += 1;
     }
     number(text, k, sum)
-}
-
-fn of_first(op: u8, kept: &[u8], n: usize, records: &mut [u8], scratch: &mut [u8]) -> usize {
-    if n > kept.len() {
-        return 0;
-    }
-    reading(op, Table::One, &kept[..n], records, scratch, 0)
 }

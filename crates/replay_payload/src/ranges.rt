@@ -61,13 +61,7 @@ fn admitted(a: Admitted) -> u8 {
     }
 }
 
-pub fn admits_all(min: u8, max: u8, step: u8, text: &mut [u8], k: usize) -> usize {
-    let r = AmbientRange {
-        voice: true,
-        min,
-        max,
-        step,
-    };
+pub fn admits_all(r: AmbientRange, text: &mut [u8], k: usize) -> usize {
     let mut sum: u64 = 0;
     let mut i = 0;
     while i < 265 {
@@ -114,13 +108,7 @@ fn within_low(r: AmbientRange, low: u8, before: u64) -> u64 {
     sum
 }
 
-pub fn within_all(min: u8, max: u8, step: u8, text: &mut [u8], k: usize) -> usize {
-    let r = AmbientRange {
-        voice: step % 2 == 1,
-        min,
-        max,
-        step,
-    };
+pub fn within_all(r: AmbientRange, text: &mut [u8], k: usize) -> usize {
     let mut sum: u64 = 0;
     let mut i = 0;
     while i < 28 {

@@ -1,4 +1,5 @@
 // Whether strings are text, over all the strings with one first byte.
+use replay::first;
 use replay::mix;
 use replay::number;
 use replay::put;
@@ -23,79 +24,35 @@ fn mixed_text(sum: u64, b: bool) -> u64 {
     if b { mix(sum, 1) } else { mix(sum, 0) }
 }
 
-fn of_first(kept: &[u8], n: usize, sum: u64) -> u64 {
-    if n > kept.len() {
-        return sum;
+// The byte `i` of those that a place is given: every byte, or those round the edges.
+fn tried(i: usize, count: usize) -> u8 {
+    if count == 256 {
+        return (i % 256) as u8;
     }
-    mixed_text(sum, paired::is_text(&kept[..n]))
+    edge(i)
 }
 
-// Every byte at the last place of n.
-fn last_byte(kept: &mut [u8], at: usize, n: usize, before: u64) -> u64 {
+fn choices(at: usize, n: usize) -> usize {
+    if at < 2 || n < 4 { 256 } else { 10 }
+}
+
+// The sum of the answers for the strings of n bytes that begin with the first `at` kept ones.
+fn strings(kept: &mut [u8], at: usize, n: usize, before: u64) -> u64 {
+    if at >= n {
+        return mixed_text(before, paired::is_text(first(kept, n)));
+    }
+    let count = choices(at, n);
     let mut sum = before;
     let mut i: usize = 0;
-    while i < 256 {
-        put(kept, at, (i % 256) as u8);
-        sum = of_first(kept, n, sum);
+    while i < count {
+        put(kept, at, tried(i, count));
+        sum = strings(kept, at + 1, n, sum);
         i += 1;
     }
     sum
 }
 
-fn last_edge(kept: &mut [u8], before: u64) -> u64 {
-    let mut sum = before;
-    let mut i: usize = 0;
-    while i < 10 {
-        put(kept, 3, edge(i));
-        sum = of_first(kept, 4, sum);
-        i += 1;
-    }
-    sum
-}
-
-fn third_edge(kept: &mut [u8], before: u64) -> u64 {
-    let mut sum = before;
-    let mut i: usize = 0;
-    while i < 10 {
-        put(kept, 2, edge(i));
-        sum = last_edge(kept, sum);
-        i += 1;
-    }
-    sum
-}
-
-fn second_of_four(kept: &mut [u8]) -> u64 {
-    let mut sum: u64 = 0;
-    let mut i: usize = 0;
-    while i < 256 {
-        put(kept, 1, (i % 256) as u8);
-        sum = third_edge(kept, sum);
-        i += 1;
-    }
-    sum
-}
-
-fn second_of_three(kept: &mut [u8]) -> u64 {
-    let mut sum: u64 = 0;
-    let mut i: usize = 0;
-    while i < 256 {
-        put(kept, 1, (i % 256) as u8);
-        sum = last_byte(kept, 2, 3, sum);
-        i += 1;
-    }
-    sum
-}
-
-fn strings(n: usize, kept: &mut [u8]) -> u64 {
-    match n {
-        1 => of_first(kept, 1, 0),
-        2 => last_byte(kept, 1, 2, 0),
-        3 => second_of_three(kept),
-        _ => second_of_four(kept),
-    }
-}
-
-pub fn texts(n: usize, first: u8, kept: &mut [u8], text: &mut [u8], k: usize) -> usize {
-    put(kept, 0, first);
-    number(text, k, strings(n, kept))
+pub fn texts(n: usize, start: u8, kept: &mut [u8], text: &mut [u8], k: usize) -> usize {
+    put(kept, 0, start);
+    number(text, k, strings(kept, 1, n, 0))
 }

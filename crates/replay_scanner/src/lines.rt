@@ -2,13 +2,15 @@
 use crate::calls::open_in;
 use crate::calls::push_in;
 use crate::calls::take_in;
-use replay::finish;
+use replay::byte_field;
+use replay::end_line;
+use replay::first;
+use replay::first_mut;
 use replay::flush;
 use replay::hex_field;
 use replay::letter;
 use replay::next_line;
 use replay::number_field;
-use replay::put;
 use replay::word;
 
 // The scanner's limit and count, the length of the store that is lent, and the place in the text.
@@ -26,7 +28,6 @@ pub fn run(input: &[u8]) {
     each(input, &mut store, &mut piece, &mut text);
 }
 
-// No case is shorter than a byte, so there are no more turns than bytes.
 fn each(input: &[u8], store: &mut [u8], piece: &mut [u8], text: &mut [u8]) {
     let mut at = 0;
     let mut state = State {
@@ -35,13 +36,12 @@ fn each(input: &[u8], store: &mut [u8], piece: &mut [u8], text: &mut [u8]) {
         lent: 0,
         k: 0,
     };
-    let mut turns = input.len();
-    while turns > 0 {
-        state = line(input, at, state, store, piece, text);
+    while at < input.len() {
+        let next = line(input, at, state, store, piece, text);
+        state = with_place(next, end_line(text, next.k));
         at = next_line(input, at);
-        turns -= 1;
     }
-    flush(text, state.k, 0);
+    flush(text, state.k);
 }
 
 fn line(
@@ -52,23 +52,9 @@ fn line(
     piece: &mut [u8],
     text: &mut [u8],
 ) -> State {
-    if at >= input.len() {
-        return state;
-    }
     let lent = lent_of(input, at, state.lent);
-    if lent > store.len() {
-        return state;
-    }
-    let next = answer(
-        input,
-        at,
-        with_lent(state, lent),
-        &mut store[..lent],
-        piece,
-        text,
-    );
-    let end = finish(text, next.k);
-    with_place(next, flush(text, end, 32768))
+    let next = with_lent(state, lent);
+    answer(input, at, next, first_mut(store, lent), piece, text)
 }
 
 fn lent_of(input: &[u8], at: usize, before: usize) -> usize {
@@ -128,10 +114,7 @@ fn push_bytes(
     text: &mut [u8],
 ) -> State {
     let n = hex_field(input, at, 1, piece);
-    if n > piece.len() {
-        return state;
-    }
-    push_in(state, store, &piece[..n], text)
+    push_in(state, store, first(piece, n), text)
 }
 
 fn push_copies(
@@ -142,18 +125,15 @@ fn push_copies(
     piece: &mut [u8],
     text: &mut [u8],
 ) -> State {
-    let n = number_field(input, at, 1);
-    copies(piece, n, (number_field(input, at, 2) % 256) as u8);
-    if n > piece.len() {
-        return state;
-    }
-    push_in(state, store, &piece[..n], text)
+    let lent = first_mut(piece, number_field(input, at, 1));
+    copies(lent, byte_field(input, at, 2));
+    push_in(state, store, lent, text)
 }
 
-fn copies(piece: &mut [u8], n: usize, b: u8) {
+fn copies(piece: &mut [u8], b: u8) {
     let mut i = 0;
-    while i < n {
-        put(piece, i, b);
+    while i < piece.len() {
+        piece[i] = b;
         i += 1;
     }
 }

@@ -20,10 +20,6 @@ module _ (s : Scanner) (store held : List ℕ) (e : heldOf s store ≡ accepted 
   unfolding skipCall
   held-skipped n = rw e (held-gone s store held e n)
 
-  pub skipped-limit : (n : ℕ) → skipCall s store n .scanner .limit ≡ s .limit
-  unfolding skipCall
-  skipped-limit n = rw e
-
   pub skip-accepts : (n : ℕ) → skipCall s store n .answer ≡ accepted tt
   unfolding skipCall
   skip-accepts n = rw e

@@ -9,7 +9,7 @@ use Rattle.scanner.specs.declared.skipping.SkipAnswer.{SkipAnswer}
 use Rattle.scanner.specs.declared.skipping.SkipAnswer.the-variants.{Gone, Refused}
 
 -- 1 to 3; past them the first n held bytes go
-abbrev pub skipBy : Outcome (List ℕ) → Scanner → List ℕ → ℕ → Effect (Unit {0})
+abbrev skipBy : Outcome (List ℕ) → Scanner → List ℕ → ℕ → Effect (Unit {0})
 skipBy (refused m vs) s store n = refuses m vs s store
 skipBy (accepted held) s store n = gone tt s held store n
 

@@ -1,9 +1,9 @@
 // Splits a byte stream into frames: the caller lends the store; the state goes by value, or is lent too.
-pub mod finding;
-pub mod lent;
-pub mod scanner;
-pub mod skipping;
-pub mod taking;
+mod finding;
+mod lent;
+mod scanner;
+mod skipping;
+mod taking;
 
 pub use finding::Found;
 pub use finding::find;

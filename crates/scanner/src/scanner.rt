@@ -33,9 +33,9 @@ pub fn holding(scanner: Scanner, count: usize) -> Scanner
     }
 }
 
-pub const LEAST_LIMIT: usize = 9;
+const LEAST_LIMIT: usize = 9;
 
-pub const MAX_BUFFER: usize = 65536;
+const MAX_BUFFER: usize = 65536;
 
 pub enum Checked {
     Fine,

@@ -23,9 +23,9 @@ pub struct Taken {
 }
 
 // How many held bytes go, and whether a span does.
-pub struct Cut {
-    pub goes: usize,
-    pub span: bool,
+struct Cut {
+    goes: usize,
+    span: bool,
 }
 
 fn decide(held: &[u8], limit: usize) -> Cut

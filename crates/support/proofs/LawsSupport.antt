@@ -1,16 +1,15 @@
--- An accepted count, the records as they are filled, and the record at an index.
+-- An accepted count, and the records as they are filled.
 use Prim.Native.Nat.{ℕ, zero, suc, _+_, _*_, _≤_, _<_}
 use mathlib.Core.Path.{_≡_, refl, ap, _∙_}
 use mathlib.Core.List.{List, [], _∷_}
 use native.Mathlib.Omega.{arith}
 use native.Mathlib.Numerals.{add-one}
-use lib.ListN.{length, getD, drop, set, length-append, length-drop, drop-of-length-le}
+use lib.ListN.{length, getD, drop, set, length-append, length-drop}
 use lib.Seq.{drop-cons, set-at, append-snoc}
 use Rattle.base.specs.Outcome.{accepted}
 use Rattle.reading.proofs.LawsReading.{was-counted}
 use Rattle.support.specs.declared.support.SupportFunction.{SupportFunction}
-use Rattle.support.specs.declared.support.SupportRecord.the-variants.{Function, NoRecord}
-use Rattle.support.specs.Support.{checkOf, functionAt, functions, recordsWith, recordOf}
+use Rattle.support.specs.Support.{checkOf, functionAt, functions, recordsWith}
 
 -- an accepted count is the list's
 pub was-list : (p : List ℕ) (n : ℕ) → checkOf p ≡ accepted n → (n ≡ getD p 2 0) × (length p ≡ 3 + 2 * n)
@@ -21,7 +20,7 @@ was-list p n h =
     (e, omega arith)
 
 module _ (p : List ℕ) where
-  pub length-functions : (n : ℕ) → length (functions p n) ≡ n
+  length-functions : (n : ℕ) → length (functions p n) ≡ n
   unfolding functions
   length-functions zero = refl
   length-functions (suc n) = length-append (functions p n) (functionAt p n ∷ []) ∙ ap (λ (k : ℕ). k + 1) (length-functions n) ∙ add-one n
@@ -39,12 +38,3 @@ module _ (p : List ℕ) where
   with-next i rs h =
       let f : SupportFunction = functionAt p i in
       rw (drop-cons rs i f h, set-at (functions p i) (getD rs i f) (drop (suc i) rs) f i (length-functions i), add-one i, append-snoc)
-
--- the record at an index
-pub record-inside : (rs : List SupportFunction) (i : ℕ) (d : SupportFunction) → i < length rs → recordOf rs i ≡ Function (getD rs i d .code) (getD rs i d .priority)
-unfolding recordOf
-record-inside rs i d h = rw (drop-cons rs i d h)
-
-pub record-past : (rs : List SupportFunction) (i : ℕ) → length rs ≤ i → recordOf rs i ≡ NoRecord
-unfolding recordOf
-record-past rs i h = rw (drop-of-length-le rs h)

@@ -10,8 +10,6 @@ use Rattle.reading.specs.Items.{fixed, counted}
 use Rattle.reading.specs.Reading.{readingOf}
 use Rattle.support.specs.declared.support.Table.{Table}
 use Rattle.support.specs.declared.support.SupportFunction.{SupportFunction}
-use Rattle.support.specs.declared.support.SupportRecord.{SupportRecord}
-use Rattle.support.specs.declared.support.SupportRecord.the-variants.{Function, NoRecord}
 use Rattle.support.specs.declared.support.Placing.{Placing}
 use Rattle.support.specs.declared.support.SupportCheck.{SupportCheck}
 use Rattle.support.specs.declared.support.SupportCheck.the-variants as Check
@@ -63,14 +61,6 @@ supportBy (accepted count) table p records =
 -- 19, then 20 where the list is longer than the lent records; the list goes into the records
 unfoldable pub supportCall : Table → List ℕ → List SupportFunction → SupportEffect
 supportCall table p records = supportBy (checkOf p) table p records
-
--- the record at an index, or that there is none
-abbrev pub recordBy : List SupportFunction → SupportRecord
-recordBy [] = NoRecord
-recordBy (f ∷ fs) = Function (f .code) (f .priority)
-
-unfoldable pub recordOf : List SupportFunction → ℕ → SupportRecord
-recordOf records index = recordBy (drop index records)
 
 -- what the helper of the decoder answers, whatever the lent records hold: there is room for what is written, and it is in the list. 01 does not speak of it
 abbrev pub Placed : Table → List ℕ → ℕ → Placing → Type 0

@@ -2,7 +2,7 @@
 ghost use mathlib.Core.Path.{_≡_};
 ghost use Prim.Native.Nat.{_+_, _*_, _<_};
 ghost use lib.ListN.{length};
-ghost use Rattle.support.specs.Support.{checkTold, checkOf, supportTold, supportCall, functionAt, Placed, recordOf};
+ghost use Rattle.support.specs.Support.{checkTold, checkOf, supportTold, supportCall, functionAt, Placed};
 use frame::Refusal;
 
 pub enum Table {
@@ -47,9 +47,9 @@ pub fn check_support_functions(payload: &[u8]) -> SupportCheck
 }
 
 // The answer, and how many of the first places are written.
-pub struct Placing {
-    pub answer: SupportAnswer,
-    pub places: usize,
+struct Placing {
+    answer: SupportAnswer,
+    places: usize,
 }
 
 fn place(table: Table, payload: &[u8], room: usize) -> Placing
@@ -103,24 +103,4 @@ pub fn decode_support_functions(
         i += 1;
     }
     p.answer
-}
-
-// A record, or that there is none at this index.
-pub enum SupportRecord {
-    Function { code: u8, priority: u8 },
-    NoRecord,
-}
-
-pub fn support_record(records: &[SupportFunction], index: usize) -> SupportRecord
-    ensures { λ r. ⌜ r ≡ recordOf (now (records .entry)) index ⌝ }
-{
-    if index < records.len() {
-        let f = records[index];
-        SupportRecord::Function {
-            code: f.code,
-            priority: f.priority,
-        }
-    } else {
-        SupportRecord::NoRecord
-    }
 }

@@ -2,8 +2,6 @@
 use Prim.Native.Nat.{ℕ}
 use mathlib.Core.List.{List, [], _∷_}
 use Rattle.base.specs.Outcome.{Outcome, accepted, refused}
-use Rattle.scanner.specs.Scanner.{fresh, holding}
-use Rattle.scanner.specs.declared.scanner.Scanner.{Scanner}
 
 -- 0, or 01's number of the refusal
 abbrev pub statusOf : {A : Type 0} → Outcome A → ℕ
@@ -24,7 +22,3 @@ told (n ∷ ns) (v ∷ vs) = n ∷ told ns vs
 -- one number
 abbrev pub only : ℕ → List ℕ
 only n = n ∷ []
-
--- the scanner's state, handed over as two numbers
-abbrev pub state : (limit count : ℕ) → Scanner
-state limit count = holding (fresh limit) count

@@ -1,11 +1,8 @@
 // What every call tells: a status, and numbers at the front of `values`, as many as fit.
 use frame::Refusal;
-use scanner::Scanner;
-use scanner::fresh;
-use scanner::holding;
 ghost use mathlib.Core.Path.{_≡_};
 ghost use Rattle.base.specs.Refusal.{listed, numberOf};
-ghost use Rattle.telling.specs.Told.{told, state};
+ghost use Rattle.telling.specs.Told.{told};
 
 pub fn tell(numbers: &[u64], values: &mut [u64])
     ensures { λ _. ⌜ now (values .exit) ≡ told (now (numbers .entry)) (now (values .entry)) ⌝ }
@@ -43,11 +40,4 @@ pub fn refuse(r: Refusal, values: &mut [u64]) -> u8
         }
         _ => r.number(),
     }
-}
-
-// The scanner's state from the two numbers that it is handed over as.
-pub fn state(limit: usize, count: usize) -> Scanner
-    ensures { λ r. ⌜ r ≡ state limit count ⌝ }
-{
-    holding(fresh(limit), count)
 }

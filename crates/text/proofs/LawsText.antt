@@ -29,7 +29,7 @@ pub above : (low high b : ℕ) → high < b → inRange low high b ≡ false
 above low high b h = rw (lt-leb b high h) (either (leb low b))
 
 -- the place after bytes that follow others
-pub after-append : (p : Place) (xs ys : List ℕ) → placeAfter p (xs ++ ys) ≡ placeAfter (placeAfter p xs) ys
+after-append : (p : Place) (xs ys : List ℕ) → placeAfter p (xs ++ ys) ≡ placeAfter (placeAfter p xs) ys
 unfolding placeAfter
 after-append p [] ys = refl
 after-append p (x ∷ xs) ys = after-append (next p x) xs ys
@@ -43,7 +43,7 @@ at-lead Failed e = cc
 pub text-append : (xs ys : List ℕ) → isTextOf xs ≡ true → isTextOf (xs ++ ys) ≡ isTextOf ys
 text-append xs ys e = ap complete (after-append Lead xs ys) ∙ ap (λ (p : Place). textFrom p ys) (at-lead (placeAfter Lead xs) e)
 
-pub after-step : (p : Place) (xs : List ℕ) (i : ℕ) → i < length xs → placeAfter p (drop i xs) ≡ placeAfter (next p (getD xs i 0)) (drop (i + 1) xs)
+after-step : (p : Place) (xs : List ℕ) (i : ℕ) → i < length xs → placeAfter p (drop i xs) ≡ placeAfter (next p (getD xs i 0)) (drop (i + 1) xs)
 unfolding placeAfter
 after-step p xs i h = rw (add-one, drop-cons xs i 0)
 

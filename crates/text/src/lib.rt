@@ -1,4 +1,4 @@
 // Whether bytes are text by RFC 3629.
-pub mod text;
+mod text;
 
 pub use text::is_text;

@@ -2,7 +2,6 @@
 use crate::system::processor_time;
 use common::choice::Choice;
 use common::frames::{self, framed};
-use common::ours;
 use common::streams::{Kind, stream};
 use original::mdr::DataType;
 use original::mdr::frame::{self, checksum, escape_into, pack, pack_into, unescape, unpack};
@@ -248,8 +247,7 @@ fn decoders() {
 
 fn every_function(payload: &[u8], values: &mut [u64]) -> u8 {
     let mut records = [ours::SupportFunction { code: 0, priority: 0 }; 255];
-    values[0] = ours::support_functions(1, payload, black_box(&mut records)).into();
-    0
+    ours::support_functions(1, payload, black_box(&mut records), values)
 }
 
 fn every_device(payload: &[u8], values: &mut [u64]) -> u8 {
@@ -288,24 +286,27 @@ fn scanner(how: &str, limit: usize, store: usize, bytes: &[u8], piece: usize, ou
     row(&name, (times.0 / spans as f64, times.1 / spans as f64));
 }
 
+fn opened(limit: usize, store: &mut [u8]) -> ours::Scanner {
+    let mut scanner = ours::Scanner { limit: 0, count: 0 };
+    assert_eq!(ours::open(&mut scanner, limit, store), 0);
+    scanner
+}
+
 /// How many spans there are; each is found, then taken.
 fn taken_spans(limit: usize, store: &mut [u8], bytes: &[u8], piece: usize) -> usize {
     let mut values = [0; 4];
     let mut spans = 0;
-    let mut held = 0;
-    ours::open(limit, store, &mut values);
+    let mut scanner = opened(limit, store);
     for piece in bytes.chunks(piece) {
-        assert_eq!(ours::push(limit, held, store, piece, &mut values), 0);
-        held = values[0] as usize;
+        assert_eq!(ours::push(&mut scanner, store, piece), 0);
         loop {
-            ours::find(limit, held, store, &mut values);
+            ours::find(&scanner, store, &mut values);
             let [found, at, len, _] = values.map(|v| v as usize);
             if found == 1 {
                 black_box(&store[at..at + len]);
                 spans += 1;
             }
-            ours::take(limit, held, store, &mut values);
-            held = values[1] as usize;
+            ours::take(&mut scanner, store, &mut values);
             if found == 0 {
                 break;
             }
@@ -318,26 +319,29 @@ fn taken_spans(limit: usize, store: &mut [u8], bytes: &[u8], piece: usize) -> us
 fn skipped_spans(limit: usize, store: &mut [u8], bytes: &[u8], piece: usize) -> usize {
     let mut values = [0; 4];
     let mut spans = 0;
-    let (mut held, mut past) = (0, 0);
-    ours::open(limit, store, &mut values);
+    let mut past = 0;
+    let mut scanner = opened(limit, store);
     for piece in bytes.chunks(piece) {
-        if store.len() - held < piece.len() {
-            ours::skip(limit, held, store, past, &mut values);
-            (held, past) = (values[0] as usize, 0);
+        if store.len() - scanner.count < piece.len() {
+            ours::skip(&mut scanner, store, past);
+            past = 0;
         }
-        assert_eq!(ours::push(limit, held, store, piece, &mut values), 0);
-        held = values[0] as usize;
-        while ours::seek(&store[past..held], &mut values) == 2 {
-            let [at, len, ..] = values.map(|v| v as usize);
+        assert_eq!(ours::push(&mut scanner, store, piece), 0);
+        loop {
+            ours::seek(&store[past..scanner.count], &mut values);
+            let [seen, at, len, _] = values.map(|v| v as usize);
+            if seen < 2 {
+                break;
+            }
             black_box(&store[past + at..past + at + len]);
             spans += 1;
             past += at + len;
         }
         // only then may take clear anything
-        if held - past > limit {
-            ours::skip(limit, held, store, past, &mut values);
-            ours::take(limit, values[0] as usize, store, &mut values);
-            (held, past) = (values[1] as usize, 0);
+        if scanner.count - past > limit {
+            ours::skip(&mut scanner, store, past);
+            ours::take(&mut scanner, store, &mut values);
+            past = 0;
         }
     }
     spans

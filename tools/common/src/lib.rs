@@ -1,6 +1,6 @@
-//! What `tools/compare` and `tools/bench` share: the choice of cases, frames and streams, and the log of a stream over the Rust original.
+//! What the tools share: the choice of cases, frames and streams, and the log of a stream over the Rust original. Nothing here calls the
+//! proved library.
 pub mod choice;
 pub mod frames;
 pub mod log;
-pub mod ours;
 pub mod streams;

@@ -1,4 +1,5 @@
 //! What a case is, how cases are counted, and how one that shows a difference is made as small as it goes.
+pub use common::log::hex;
 use original::mdr::frame::{pack, unpack};
 use std::collections::BTreeMap;
 
@@ -113,8 +114,4 @@ pub fn fewer_in_frame(bytes: &[u8]) -> Vec<Vec<u8>> {
     }
     all.extend(fewer(bytes));
     all
-}
-
-pub fn hex(bytes: &[u8]) -> String {
-    bytes.iter().map(|b| format!("{b:02X}")).collect()
 }

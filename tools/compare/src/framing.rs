@@ -4,7 +4,6 @@ use crate::inputs::{any, content, length, room, shortest, strings, values};
 use crate::lent::{Left, Lent, MOST_VALUES, Told, Values, left_difference, told_difference};
 use common::choice::Choice;
 use common::frames::{END, HOUSE, MARKS, SENTRY, START, accepted, body, damage, escaped, framed};
-use common::ours;
 use original::mdr::DataType;
 use original::mdr::frame::{self, FrameError};
 

@@ -3,7 +3,7 @@ use crate::case::{Case, Run, Tally, fewer, hex};
 use crate::inputs::values;
 use crate::lent::{MOST_VALUES, Told, Values, told_difference};
 use common::choice::Choice;
-use common::{frames, ours};
+use common::frames;
 use original::mdr::payload::{AmbientRange, EqShape};
 
 #[derive(Clone, Copy, Debug)]
@@ -29,10 +29,11 @@ impl Case for Range {
             Call::Admits { level } => {
                 // 22 where the Rust panics.
                 let panics = step == 0 && (i32::from(min)..=i32::from(max)).contains(&level);
-                let expected = if panics { 22 } else { u8::from(range.admits(level)) };
-                tally.add("admits", if expected == 22 { 22 } else { 0 });
-                let got = ours::admits(min, max, step, level);
-                (expected != got).then(|| format!("expected: {expected}\nours:     {got}"))
+                let expected = if panics { Told::refused(22) } else { Told::accepted(&[range.admits(level).into()]) };
+                tally.add("admits", expected.status);
+                let mut values = Values::new(self.values);
+                let status = ours::admits(min, max, step, level, values.lend());
+                told_difference(&expected, status, &values)
             }
             Call::Within { low, high } => {
                 tally.add("within", 0);
@@ -70,6 +71,9 @@ impl Case for Range {
         };
         let fewer = calls.into_iter().filter(|&call| numbers(call) < numbers(self.call));
         all.extend(fewer.map(|call| Range { call, ..self.clone() }));
+        if self.values != MOST_VALUES {
+            all.push(Range { values: MOST_VALUES, ..self.clone() });
+        }
         all
     }
 

@@ -4,7 +4,6 @@ use crate::inputs::{any, content, room, shortest, strings, values};
 use crate::lent::{Lent, MOST_VALUES, Told, Values, left_difference, told_difference};
 use common::choice::Choice;
 use common::frames::{accepted, damage, support};
-use common::ours;
 use original::mdr::payload::{
     AmbientRange, Cell, Charging, Message, NoiseMode, PairedDevice, Reading, Table, decode_battery, decode_equalizer,
     decode_general_setting_param, decode_noise, decode_noise_capability, decode_paired_devices, decode_support_functions,
@@ -180,24 +179,23 @@ impl Payload {
         let room = functions.as_ref().map_or(4, Vec::len).saturating_add_signed(self.room);
         let mut records = vec![unset; room + 4];
         let mut expected = records.clone();
-        let refusal = match &functions {
-            None => 19,
-            Some(functions) if room < functions.len() => 20,
+        let told = match &functions {
+            None => Told::refused(19),
+            Some(functions) if room < functions.len() => Told::refused(20),
             Some(functions) => {
                 for (record, f) in expected[2..].iter_mut().zip(functions) {
                     *record = ours::SupportFunction { code: f.code, priority: f.priority };
                 }
-                0
+                Told::accepted(&[functions.len() as u64])
             }
         };
-        tally.add("support_functions", refusal);
-        let answer = if refusal == 0 { functions.map_or(0, |f| f.len()) } else { 256 + usize::from(refusal) };
-        let got = ours::support_functions(self.table, &self.bytes, &mut records[2..2 + room]);
-        if usize::from(got) != answer {
-            return Some(format!("expected: {answer}\nours:     {got}"));
-        }
-        let at = records.iter().zip(&expected).position(|(a, b)| a != b)?;
-        Some(format!("record {} of {room} expected: {:?}\nours:     {:?}", at as isize - 2, expected[at], records[at]))
+        let difference = self.compare(tally, "support_functions", told, |bytes, values| {
+            ours::support_functions(self.table, bytes, &mut records[2..2 + room], values)
+        });
+        difference.or_else(|| {
+            let at = records.iter().zip(&expected).position(|(a, b)| a != b)?;
+            Some(format!("record {} of {room} expected: {:?}\nours:     {:?}", at as isize - 2, expected[at], records[at]))
+        })
     }
 
     /// A payload that the decoder refuses stays as it was.

@@ -1,4 +1,4 @@
-//! Sessions of a scanner: open, push, find, take and line calls beside the Rust's `Scanner` and the log over its `unpack` and decoders.
+//! Sessions of a scanner beside the Rust's `Scanner`, and their line calls beside the log over its `unpack` and decoders.
 use crate::case::{Case, Run, Tally, fewer, fewer_in_frame, hex};
 use crate::inputs::{any, content, room, strings, values};
 use crate::lent::{Left, Lent, MOST_VALUES, Told, Values, left_difference, told_difference};
@@ -6,7 +6,6 @@ use crate::ranges::is_plan;
 use common::choice::Choice;
 use common::frames::{END, HOUSE, MARKS, START, accepted, damage, framed, house_plan, name, paired};
 use common::log::Log;
-use common::ours;
 use original::mdr::frame_any::{LIMIT, Scanner};
 
 /// What is wrong with the plan of a line call.
@@ -59,10 +58,11 @@ pub struct Session {
     store: usize,
     plan: Vec<u8>,
     values: usize,
-    /// Whether push and take are given the state where the caller keeps it.
-    lent: bool,
     ops: Vec<Op>,
 }
+
+/// What stands before and behind the state that is lent to ours.
+const AROUND: ours::Scanner = ours::Scanner { limit: usize::MAX / 3, count: usize::MAX / 5 };
 
 /// Both sides between two calls.
 struct State<'a> {
@@ -70,6 +70,8 @@ struct State<'a> {
     tally: &'a mut Tally,
     limit: usize,
     count: usize,
+    /// The middle one is lent to ours.
+    states: [ours::Scanner; 3],
     /// Lent to ours.
     store: Lent,
     /// What it should hold.
@@ -92,8 +94,19 @@ impl State<'_> {
         }
     }
 
+    /// Compares what a call told, and the state and the store that it left.
     fn compare(&self, told: &Told, status: u8, values: &Values) -> Option<String> {
-        told_difference(told, status, values).or_else(|| left_difference("store", &self.expected, &self.store))
+        told_difference(told, status, values)
+            .or_else(|| self.state_difference())
+            .or_else(|| left_difference("store", &self.expected, &self.store))
+    }
+
+    fn state_difference(&self) -> Option<String> {
+        let expected = ours::Scanner { limit: self.limit, count: self.count };
+        if [self.states[0], self.states[2]] != [AROUND; 2] {
+            return Some("ours wrote outside of the state".into());
+        }
+        (self.states[1] != expected).then(|| format!("expected: {expected:?}\nours:     {:?}", self.states[1]))
     }
 
     /// The Rust's `next_raw`, and what the store holds then: what stays, at the front, and zeros.
@@ -115,74 +128,40 @@ impl State<'_> {
         Some((self.count - copy.buf.len() - span.len(), span))
     }
 
+    /// The state is this limit and nothing held also where the opening is refused.
     fn open(&mut self) -> Option<String> {
-        let mut values = Values::new(self.session.values);
-        let status = ours::open(self.limit, self.store.lend(), values.lend());
+        let status = ours::open(&mut self.states[1], self.limit, self.store.lend());
         let told = match self.refusal() {
             Some(r) => Told::refused(r),
             None => {
                 self.expected.fill(0);
-                Told::accepted(&[0])
+                Told::accepted(&[])
             }
         };
         self.tally.add("open", told.status);
-        self.compare(&told, status, &values)
-    }
-
-    /// A call that is lent the state, which must stay within its bounds; what it answers, the state then, or the difference.
-    fn with_state(&mut self, call: impl FnOnce(&mut ours::Scanner, &mut [u8]) -> u8) -> Result<(u8, ours::Scanner), String> {
-        let around = ours::Scanner { limit: usize::MAX / 3, count: usize::MAX / 5 };
-        let mut cells = [around, ours::Scanner { limit: self.limit, count: self.count }, around];
-        let answer = call(&mut cells[1], self.store.lend());
-        if cells[0] != around || cells[2] != around {
-            return Err("ours wrote outside of the state".into());
-        }
-        Ok((answer, cells[1]))
-    }
-
-    /// Compares what such a call answered, and the state and the store then.
-    fn compare_state(&self, expected: u8, got: Result<(u8, ours::Scanner), String>) -> Option<String> {
-        let state = ours::Scanner { limit: self.limit, count: self.count };
-        match got {
-            Err(difference) => Some(difference),
-            Ok(got) if got == (expected, state) => left_difference("store", &self.expected, &self.store),
-            Ok(got) => Some(format!("expected: {:?}\nours:     {got:?}", (expected, state))),
-        }
-    }
-
-    /// What the Rust does with a piece: the refusal's number, or 0.
-    fn pushed(&mut self, piece: &[u8]) -> u8 {
-        let full = || (self.expected.len() - self.count < piece.len()).then_some(4);
-        if let Some(r) = self.refusal().or_else(full) {
-            return r;
-        }
-        self.scanner.push(piece);
-        self.expected[self.count..self.count + piece.len()].copy_from_slice(piece);
-        self.count = self.scanner.buffered();
-        0
+        self.compare(&told, status, &Values::new(0))
     }
 
     fn push(&mut self, piece: &[u8]) -> Option<String> {
-        if self.session.lent {
-            let got = self.with_state(|scanner, store| ours::scanner_push(scanner, store, piece));
-            let expected = self.pushed(piece);
-            self.tally.add("scanner_push", expected);
-            return self.compare_state(expected, got);
-        }
-        let mut values = Values::new(self.session.values);
-        let status = ours::push(self.limit, self.count, self.store.lend(), piece, values.lend());
-        let told = match self.pushed(piece) {
-            0 => Told::accepted(&[self.count as u64]),
-            r => Told::refused(r),
+        let status = ours::push(&mut self.states[1], self.store.lend(), piece);
+        let full = || (self.expected.len() - self.count < piece.len()).then_some(4);
+        let told = match self.refusal().or_else(full) {
+            Some(r) => Told::refused(r),
+            None => {
+                self.scanner.push(piece);
+                self.expected[self.count..self.count + piece.len()].copy_from_slice(piece);
+                self.count = self.scanner.buffered();
+                Told::accepted(&[])
+            }
         };
         self.tally.add("push", told.status);
-        self.compare(&told, status, &values)
+        self.compare(&told, status, &Values::new(0))
     }
 
     /// Whether there is a span, or the difference.
     fn find(&mut self) -> Result<bool, String> {
         let mut values = Values::new(self.session.values);
-        let status = ours::find(self.limit, self.count, self.store.lend(), values.lend());
+        let status = ours::find(&self.states[1], self.store.lend(), values.lend());
         let (told, outcome) = match self.refusal() {
             Some(r) => (Told::refused(r), r),
             None => match self.next_span() {
@@ -198,20 +177,19 @@ impl State<'_> {
     fn seek(&mut self) -> Option<String> {
         let held = self.store.held().get(..self.count)?.to_vec();
         let mut values = Values::new(self.session.values);
-        let seen = ours::seek(&held, values.lend());
-        let told = match (self.next_span(), held.iter().position(|&b| b == 0x3E)) {
-            (Some((at, span)), _) => Told { status: 2, numbers: vec![at as u64, span.len() as u64] },
-            (None, Some(at)) => Told { status: 1, numbers: vec![at as u64] },
-            (None, None) => Told { status: 0, numbers: vec![] },
+        let status = ours::seek(&held, values.lend());
+        let told = match (self.next_span(), held.iter().position(|&b| b == START)) {
+            (Some((at, span)), _) => Told::accepted(&[2, at as u64, span.len() as u64]),
+            (None, Some(at)) => Told::accepted(&[1, at as u64]),
+            (None, None) => Told::accepted(&[0]),
         };
-        self.tally.add("seek", if told.status == 2 { 0 } else { b'N' });
-        told_difference(&told, seen, &values)
+        self.tally.add("seek", if told.numbers[0] == 2 { 0 } else { b'N' });
+        told_difference(&told, status, &values)
     }
 
     /// As many held bytes go, and the rest is left as by a take.
     fn skip(&mut self, n: usize) -> Option<String> {
-        let mut values = Values::new(self.session.values);
-        let status = ours::skip(self.limit, self.count, self.store.lend(), n, values.lend());
+        let status = ours::skip(&mut self.states[1], self.store.lend(), n);
         let told = match self.refusal() {
             Some(r) => Told::refused(r),
             None => {
@@ -219,41 +197,20 @@ impl State<'_> {
                 self.count = self.scanner.buf.len();
                 self.expected.fill(0);
                 self.expected[..self.count].copy_from_slice(&self.scanner.buf);
-                Told::accepted(&[self.count as u64])
+                Told::accepted(&[])
             }
         };
         self.tally.add("skip", told.status);
-        self.compare(&told, status, &values)
-    }
-
-    /// What the Rust does when a span is to be taken: the refusal's number, 0, or N.
-    fn taken(&mut self) -> u8 {
-        match self.refusal() {
-            Some(r) => r,
-            None if self.next_raw().is_some() => 0,
-            None => b'N',
-        }
+        self.compare(&told, status, &Values::new(0))
     }
 
     fn take(&mut self) -> Option<String> {
-        if self.session.lent {
-            let got = self.with_state(ours::scanner_take);
-            let outcome = self.taken();
-            self.tally.add("scanner_take", outcome);
-            let expected = match outcome {
-                0 => 255,
-                b'N' => 0,
-                r => r,
-            };
-            return self.compare_state(expected, got);
-        }
         let mut values = Values::new(self.session.values);
-        let status = ours::take(self.limit, self.count, self.store.lend(), values.lend());
-        let outcome = self.taken();
-        let told = match outcome {
-            0 => Told::accepted(&[1, self.count as u64]),
-            b'N' => Told::accepted(&[0, self.count as u64]),
-            r => Told::refused(r),
+        let status = ours::take(&mut self.states[1], self.store.lend(), values.lend());
+        let (told, outcome) = match self.refusal() {
+            Some(r) => (Told::refused(r), r),
+            None if self.next_raw().is_some() => (Told::accepted(&[1]), 0),
+            None => (Told::accepted(&[0]), b'N'),
         };
         self.tally.add("take", outcome);
         self.compare(&told, status, &values)
@@ -289,7 +246,7 @@ impl State<'_> {
         let mut work = Lent::new(self.expected.len().saturating_add_signed(work));
         let mut out = Lent::new(room);
         let mut values = Values::new(self.session.values);
-        let status = ours::all_lines(self.limit, self.count, self.store.lend(), &plan, work.lend(), out.lend(), values.lend());
+        let status = ours::all_lines(&mut self.states[1], self.store.lend(), &plan, work.lend(), out.lend(), values.lend());
 
         let early = || if is_plan(&plan) { (work.held().len() < self.expected.len()).then_some(6) } else { Some(5) };
         let (last, work_left, lines) = if let Some(r) = self.refusal().or_else(early) {
@@ -311,7 +268,7 @@ impl State<'_> {
             };
             (last, Left::Zero, lines)
         };
-        let told = Told { status: last, numbers: vec![lines.len() as u64, self.count as u64] };
+        let told = Told { status: last, numbers: vec![lines.len() as u64] };
         self.tally.add("all_lines", last);
         self.compare(&told, status, &values)
             .or_else(|| left_difference("work area", &work_left.whole(&work), &work))
@@ -332,7 +289,7 @@ impl State<'_> {
         let mut work = Lent::new(self.expected.len().saturating_add_signed(work));
         let mut out = Lent::new(line.len().saturating_add_signed(out));
         let mut values = Values::new(self.session.values);
-        let status = ours::line(self.limit, self.count, self.store.lend(), &plan, work.lend(), out.lend(), values.lend());
+        let status = ours::line(&mut self.states[1], self.store.lend(), &plan, work.lend(), out.lend(), values.lend());
 
         let early = || if is_plan(&plan) { (work.held().len() < self.expected.len()).then_some(6) } else { Some(5) };
         let (told, outcome, work_left, out_left) = if let Some(r) = refusal.or_else(early) {
@@ -342,12 +299,11 @@ impl State<'_> {
         } else {
             let span = self.next_raw();
             assert_eq!(span.is_some(), !line.is_empty());
-            let numbers = [span.is_some().into(), line.len() as u64, self.count as u64];
             let letter = line.first().map_or(b'N', |&letter| letter);
-            (Told::accepted(&numbers), letter, Left::Zero, Left::Front(line))
+            (Told::accepted(&[line.len() as u64]), letter, Left::Zero, Left::Front(line))
         };
         self.tally.add("line", outcome);
-        let written = told.numbers.first() == Some(&1);
+        let written = told.numbers.first().is_some_and(|&n| n > 0);
         self.compare(&told, status, &values)
             .or_else(|| left_difference("work area", &work_left.whole(&work), &work))
             .or_else(|| left_difference("output", &out_left.whole(&out), &out))
@@ -366,6 +322,7 @@ impl State<'_> {
 
     fn set(&mut self, limit: usize, count: usize) {
         (self.limit, self.count) = (limit, count);
+        self.states[1] = ours::Scanner { limit, count };
         self.scanner = Scanner::new();
         self.scanner.push(self.expected.get(..count).unwrap_or(&[]));
     }
@@ -400,7 +357,16 @@ impl Case for Session {
     fn difference(&self, tally: &mut Tally) -> Option<String> {
         let store = Lent::new(self.store);
         let expected = store.filled();
-        let mut state = State { session: self, tally, limit: self.limit, count: 0, store, expected, scanner: Scanner::new() };
+        let mut state = State {
+            session: self,
+            tally,
+            limit: self.limit,
+            count: 0,
+            states: [AROUND; 3],
+            store,
+            expected,
+            scanner: Scanner::new(),
+        };
         if let Some(difference) = state.open() {
             return Some(format!("in the opening\n{difference}"));
         }
@@ -451,9 +417,7 @@ impl Case for Session {
     }
 
     fn shown(&self) -> String {
-        let how = if self.lent { "lent" } else { "by value" };
-        let mut out =
-            format!("a session: limit {}, store of {} bytes, values {}, state {how}", self.limit, self.store, self.values);
+        let mut out = format!("a session: limit {}, store of {} bytes, values {}", self.limit, self.store, self.values);
         if self.plan != house_plan() {
             out += &format!("\n  plan [{}]", hex(&self.plan));
         }
@@ -469,17 +433,9 @@ impl Case for Session {
     }
 }
 
-impl Run {
-    /// A session with the state by value, and with the state lent.
-    fn both(&mut self, session: Session) {
-        self.case(&session);
-        self.case(&Session { lent: true, ..session });
-    }
-}
-
 impl Session {
     fn of(limit: usize, store: usize, ops: Vec<Op>) -> Session {
-        Session { limit, store, plan: house_plan(), values: MOST_VALUES, lent: false, ops }
+        Session { limit, store, plan: house_plan(), values: MOST_VALUES, ops }
     }
 }
 
@@ -490,9 +446,9 @@ pub fn exhaustive(run: &mut Run) {
     for n in 0..=7 {
         for stream in strings(&[START, END, 0], n) {
             let whole = vec![Op::Push(stream.clone()), Op::TakeAll];
-            run.both(Session::of(9, 12, whole));
+            run.case(&Session::of(9, 12, whole));
             let bytewise = stream.iter().flat_map(|&b| [Op::Push(vec![b]), Op::Find, Op::Take]).collect();
-            run.both(Session::of(9, 10, bytewise));
+            run.case(&Session::of(9, 10, bytewise));
             run.case(&Session::of(9, 12, vec![Op::Push(stream), LINE, Op::LineAll]));
         }
     }
@@ -512,14 +468,14 @@ pub fn exhaustive(run: &mut Run) {
                         Op::Push(framed(0x0C, 0, &[0xD7, 1, 0, 0])),
                         Op::LineAll,
                     ];
-                    run.both(Session::of(limit, limit + 20, ops));
+                    run.case(&Session::of(limit, limit + 20, ops));
                 }
             }
         }
         for store in limit - 1..=limit + 3 {
             for held in store - 2..=store + 1 {
                 let ops = vec![Op::Push(vec![START; held]), Op::Find, Op::Push(vec![END]), LINE, Op::Take, Op::Push(vec![])];
-                run.both(Session::of(limit, store, ops));
+                run.case(&Session::of(limit, store, ops));
             }
         }
     }
@@ -527,8 +483,17 @@ pub fn exhaustive(run: &mut Run) {
     for limit in [0, 8, 9, 10, 64, 65_536, 65_537, usize::MAX] {
         for store in [0usize, 1, 8, 9, 10, 11, 64, 65, 66, 65_536, 65_537] {
             for count in [0, 1, store.saturating_sub(1), store, store + 1, usize::MAX] {
-                let ops = vec![Op::State { limit, count }, Op::Push(vec![START]), Op::Push(vec![]), Op::Find, LINE, Op::Take];
-                run.both(Session::of(limit, store, ops));
+                let ops = vec![
+                    Op::State { limit, count },
+                    Op::Push(vec![START]),
+                    Op::Push(vec![]),
+                    Op::Find,
+                    LINE,
+                    Op::AllLines { work: 0, room: 9, fault: Fault::None },
+                    Op::Skip(1),
+                    Op::Take,
+                ];
+                run.case(&Session::of(limit, store, ops));
             }
         }
     }
@@ -654,5 +619,5 @@ pub fn random(run: &mut Run, c: &mut Choice) {
     ops.push(Op::LineAll);
     ops.push(Op::Take);
     let plan = if c.one_in(3) { (0..512).map(|_| c.below(8) as u8).collect() } else { house_plan() };
-    run.case(&Session { limit, store, plan, values: values(c), lent: c.one_in(3), ops });
+    run.case(&Session { limit, store, plan, values: values(c), ops });
 }

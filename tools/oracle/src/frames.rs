@@ -1,7 +1,8 @@
 //! Cases for `frame`: the Rust's `checksum`, `escape_into`, `unescape`, `pack`, `ack_frame`, `unpack` and `DataType`.
-use crate::mdr::DataType;
-use crate::mdr::frame::{self, FrameError};
 use crate::text::{Choice, List, field, lent, rule, shown, sum};
+use common::log::number;
+use original::mdr::DataType;
+use original::mdr::frame::{self, FrameError};
 
 /// The three special bytes, the three that stand for them, and a plain one.
 const MIX: [u8; 7] = [0x3C, 0x3D, 0x3E, 0x2C, 0x2D, 0x2E, 0x41];
@@ -22,16 +23,13 @@ pub fn list() -> List {
 // What the Rust answers, as text.
 
 fn refused(e: FrameError) -> String {
-    match e {
-        FrameError::TooShort => "refused 8 ".into(),
-        FrameError::NoStart => "refused 9 ".into(),
-        FrameError::NoEnd => "refused 10 ".into(),
-        FrameError::TrailingSentry => "refused 12 ".into(),
-        FrameError::BadEscapee(b) => format!("refused 13 {b} "),
-        FrameError::BodyTooShort => "refused 14 ".into(),
-        FrameError::BadChecksum { declared, computed } => format!("refused 15 {declared} {computed} "),
-        FrameError::LengthMismatch { declared, actual } => format!("refused 16 {declared} {actual} "),
-    }
+    let values = match e {
+        FrameError::BadEscapee(b) => format!("{b} "),
+        FrameError::BadChecksum { declared, computed } => format!("{declared} {computed} "),
+        FrameError::LengthMismatch { declared, actual } => format!("{declared} {actual} "),
+        _ => String::new(),
+    };
+    format!("refused {} {values}", number(e))
 }
 
 /// The place in the list of names.

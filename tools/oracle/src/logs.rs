@@ -1,11 +1,9 @@
-//! A session for `log`: a stream of frames of every kind, and the log of its spans over the Rust's `Scanner`, `unpack`, decoders and `pack`.
-use crate::mdr::DataType;
-use crate::mdr::frame_8192::{FrameError, MAX_BUFFER, Scanner, checksum, escape_into, pack, unpack};
-use crate::mdr::payload::{
-    Message, Reading, Table, decode_battery, decode_equalizer, decode_general_setting_param, decode_noise, decode_noise_capability,
-    decode_paired_devices, decode_support_functions,
-};
+//! A session for `log`: a stream of frames of every kind, and the log of its spans, found by the Rust's `Scanner`.
 use crate::text::{Choice, rule};
+use common::frames::{END, HOUSE, SENTRY, START, escaped, framed, house_plan};
+use common::log::{Log, reading};
+use original::mdr::frame::{checksum, escape_into};
+use original::mdr::frame_8192::{MAX_BUFFER, Scanner};
 
 /// The stream, and its log.
 pub fn list() -> (Vec<u8>, Vec<u8>) {
@@ -14,8 +12,11 @@ pub fn list() -> (Vec<u8>, Vec<u8>) {
     let spans = spans([&stream[..]]);
     assert!(spans.iter().all(|s| s.len() <= MAX_BUFFER + 1));
     assert_eq!(spans, self::spans(stream.chunks(61)));
-    let log: String = spans.iter().map(|s| line(s) + "\n").collect();
-    (stream, log.into_bytes())
+    let (plan, mut lines, mut log) = (house_plan(), Log::default(), Vec::new());
+    for span in &spans {
+        lines.line(&plan, span, &mut log);
+    }
+    (stream, log)
 }
 
 /// The spans that the Rust's scanner finds.
@@ -31,96 +32,7 @@ fn spans<'a>(pieces: impl IntoIterator<Item = &'a [u8]>) -> Vec<Vec<u8>> {
     spans
 }
 
-// OURS, by document 01: the line's form, the house plan and the masking. Reading and packing are the Rust's.
-
-fn line(span: &[u8]) -> String {
-    let frame = match unpack(span) {
-        Ok(frame) => frame,
-        Err(e) => return format!("R {:02}", number(e)),
-    };
-    let (data_type, seq, payload) = (frame.data_type, frame.seq, &frame.payload[..]);
-    match reading(data_type.to_wire(), payload) {
-        None => {
-            let command = &payload[..payload.len().min(1)];
-            format!("H {:02X}{seq:02X}{:08X}{}", data_type.to_wire(), payload.len(), hex(command))
-        }
-        Some(Reading::PairedDevices(devices)) => {
-            format!("S {}", hex(&pack(data_type, seq, &masked(payload, devices.len()))))
-        }
-        Some(_) => format!("F {}", hex(&pack(data_type, seq, payload))),
-    }
-}
-
-fn number(e: FrameError) -> u8 {
-    match e {
-        FrameError::TooShort => 8,
-        FrameError::NoStart => 9,
-        FrameError::NoEnd => 10,
-        FrameError::TrailingSentry => 12,
-        FrameError::BadEscapee(_) => 13,
-        FrameError::BodyTooShort => 14,
-        FrameError::BadChecksum { .. } => 15,
-        FrameError::LengthMismatch { .. } => 16,
-    }
-}
-
-fn hex(bytes: &[u8]) -> String {
-    bytes.iter().map(|b| format!("{b:02X}")).collect()
-}
-
-/// What the decoder reads that the house plan names for the type and the command.
-fn reading(data_type: u8, payload: &[u8]) -> Option<Reading> {
-    let m = Message::split(payload)?;
-    match (data_type, payload[0]) {
-        (0x0C, 0x07) => decode_support_functions(Table::One, &m),
-        (0x0C, 0x23 | 0x25) => decode_battery(&m),
-        (0x0C, 0x57 | 0x59) => decode_equalizer(&m),
-        (0x0C, 0x61) => decode_noise_capability(&m),
-        (0x0C, 0x67 | 0x69) => decode_noise(&m),
-        (0x0C, 0xD7 | 0xD9) => decode_general_setting_param(&m),
-        (0x0E, 0x07) => decode_support_functions(Table::Two, &m),
-        (0x0E, 0x37 | 0x39) => decode_paired_devices(&m),
-        _ => None,
-    }
-}
-
-/// The payload with the address and name bytes of each device made 2A.
-fn masked(payload: &[u8], devices: usize) -> Vec<u8> {
-    let mut out = payload.to_vec();
-    let mut at = 3;
-    for _ in 0..devices {
-        let name = at + 17 + 1 + 3 + 1;
-        let end = name + usize::from(payload[name - 1]);
-        out[at..at + 17].fill(0x2A);
-        out[name..end].fill(0x2A);
-        at = end;
-    }
-    assert_eq!(at + 1, payload.len());
-    out
-}
-
 // The stream.
-
-const START: u8 = 0x3E;
-const END: u8 = 0x3C;
-const SENTRY: u8 = 0x3D;
-
-/// Each command that the house plan has an entry for, with its type.
-const PLANNED: [(u8, u8); 13] = [
-    (0x0C, 0x07),
-    (0x0C, 0x23),
-    (0x0C, 0x25),
-    (0x0C, 0x57),
-    (0x0C, 0x59),
-    (0x0C, 0x61),
-    (0x0C, 0x67),
-    (0x0C, 0x69),
-    (0x0C, 0xD7),
-    (0x0C, 0xD9),
-    (0x0E, 0x07),
-    (0x0E, 0x37),
-    (0x0E, 0x39),
-];
 
 fn stream() -> Vec<u8> {
     let mut s = Stream { bytes: vec![0], parts: vec![], c: Choice::new(23) };
@@ -168,10 +80,6 @@ impl Stream {
     }
 }
 
-fn framed(data_type: u8, seq: u8, payload: &[u8]) -> Vec<u8> {
-    pack(DataType::from_wire(data_type), seq, payload)
-}
-
 /// A body with its checksum, off by so much.
 fn body(data_type: u8, seq: u8, declared: u32, payload: &[u8], off: u8) -> Vec<u8> {
     let mut body = vec![data_type, seq];
@@ -183,12 +91,6 @@ fn body(data_type: u8, seq: u8, declared: u32, payload: &[u8], off: u8) -> Vec<u
 
 fn between_markers(inside: &[u8]) -> Vec<u8> {
     [&[START], inside, &[END]].concat()
-}
-
-fn escaped(body: &[u8]) -> Vec<u8> {
-    let mut out = Vec::new();
-    escape_into(body, &mut out);
-    between_markers(&out)
 }
 
 /// Paired devices with these names; addresses and the rest by choice.
@@ -259,8 +161,9 @@ fn accepted(c: &mut Choice, data_type: u8, command: u8) -> Vec<Vec<u8>> {
         }
         _ => unreachable!("no such entry"),
     }
+    let plan = house_plan();
     for p in &all {
-        assert!(reading(data_type, p).is_some());
+        assert!(reading(&plan, data_type, p).is_some());
     }
     all
 }
@@ -294,7 +197,7 @@ fn commands(s: &mut Stream) {
 
 /// Every entry of the plan: accepted, with a byte less and a byte more, with other bytes, and under another type.
 fn planned(s: &mut Stream) {
-    for (data_type, command) in PLANNED {
+    for (data_type, command, _) in HOUSE {
         for p in accepted(&mut s.c, data_type, command) {
             s.frame(data_type, &p);
             s.frame(data_type, &p[..p.len() - 1]);
@@ -394,7 +297,7 @@ fn false_frames(s: &mut Stream) {
 fn raw_starts(s: &mut Stream) {
     s.add(vec![START, 0, START, 0, 0, 0, 0, START, END]);
     for _ in 0..60 {
-        let (data_type, command) = PLANNED[s.c.below(PLANNED.len())];
+        let (data_type, command, _) = HOUSE[s.c.below(HOUSE.len())];
         let all = accepted(&mut s.c, data_type, command);
         let p = &all[s.c.below(all.len())];
         let seq = s.c.of(&[0, 1, START]);

@@ -1,19 +1,11 @@
 //! Prints the case lists of the replay programs, and the answers that the Rust original gives.
 mod frames;
 mod logs;
-mod mdr;
 mod payloads;
 mod scanners;
 mod text;
 
 use std::io::Write;
-
-/// The constant that `decode_volume` names; its file is not at hand, and the decoder is not replayed.
-mod sony {
-    pub mod command {
-        pub const MDR_VOLUME_MAX: i32 = 30;
-    }
-}
 
 fn main() {
     let words: Vec<String> = std::env::args().skip(1).collect();

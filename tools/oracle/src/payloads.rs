@@ -1,9 +1,9 @@
 //! Cases for `payload`: the Rust's `Message::split`, seven decoders, `AmbientRange` and `EqShape`, and its `from_utf8`.
-use crate::mdr::payload::{
+use crate::text::{Choice, List, field, lent, rule, shown, sum};
+use original::mdr::payload::{
     AmbientRange, Cell, Charging, EqShape, Message, NoiseMode, Reading, Table, decode_battery, decode_equalizer,
     decode_general_setting_param, decode_noise, decode_noise_capability, decode_paired_devices, decode_support_functions,
 };
-use crate::text::{Choice, List, field, lent, rule, shown, sum};
 
 pub fn list() -> List {
     let mut s = Session { list: List::default(), kept: vec![0; 8_192] };

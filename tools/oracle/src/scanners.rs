@@ -1,11 +1,9 @@
 //! Cases for `scanner`: the Rust's `Scanner` with `MAX_BUFFER` set to the limit.
-use crate::mdr::{frame, frame_9, frame_10, frame_64, frame_8192};
 use crate::text::{Choice, List, field, lent, shown};
+use common::frames::{END, START};
+use original::mdr::{frame, frame_any};
 
 const LIMITS: [usize; 5] = [9, 10, 64, 8_192, 65_536];
-
-const START: u8 = 0x3E;
-const END: u8 = 0x3C;
 
 pub fn list() -> List {
     let mut s = Session::default();
@@ -40,14 +38,11 @@ macro_rules! with {
 
 /// The span, if one is taken, and what is held afterwards. A piece is pushed; with none, the next span is taken.
 fn rust(limit: usize, held: &[u8], piece: Option<&[u8]>) -> (Option<Vec<u8>>, Vec<u8>) {
-    match limit {
-        9 => with!(frame_9, held, piece),
-        10 => with!(frame_10, held, piece),
-        64 => with!(frame_64, held, piece),
-        8_192 => with!(frame_8192, held, piece),
-        65_536 => with!(frame, held, piece),
-        _ => unreachable!("no scanner of the Rust has this limit"),
+    if limit == frame::MAX_BUFFER {
+        return with!(frame, held, piece);
     }
+    frame_any::LIMIT.set(limit);
+    with!(frame_any, held, piece)
 }
 
 /// A scanner and its store, as the calls leave them.

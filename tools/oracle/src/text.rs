@@ -1,4 +1,5 @@
 //! The form of the lists, and the rules by which both sides make long strings and sum them.
+use common::log::hex;
 
 /// The cases, a line each, and the answer to each.
 #[derive(Default)]
@@ -19,10 +20,6 @@ impl List {
 /// A string of bytes in a case; none at all is a hyphen.
 pub fn field(bytes: &[u8]) -> String {
     if bytes.is_empty() { "-".into() } else { hex(bytes) }
-}
-
-fn hex(bytes: &[u8]) -> String {
-    bytes.iter().map(|b| format!("{b:02X}")).collect()
 }
 
 /// A string of bytes in an answer: up to 12 in full, a longer one by its length and its sum.

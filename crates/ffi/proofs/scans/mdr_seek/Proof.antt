@@ -1,3 +1,4 @@
+use mathlib.Core.Path.{refl}
 use borrow.Author.Needs.{needs}
 use Rattle.ffi.proofs.scans.mdr_seek.Statement.{statement}
 use Rattle.ffi.proofs.scans.mdr_seek.Tie as tie
@@ -9,4 +10,4 @@ mdr-seek-spec =
     (λ c κs. search needs)
     (λ c κs. search needs)
     (λ c. search needs)
-    (λ c. rw (← c .before .before .before .before .seek .ensures) (c .before .before .sight-told .ensures)))
+    (λ c. (refl, rw (← c .before .before .before .before .seek .ensures) (c .before .before .sight-told .ensures))))

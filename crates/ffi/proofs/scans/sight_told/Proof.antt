@@ -1,6 +1,4 @@
-use mathlib.Core.Path.{refl}
 use borrow.Author.Needs.{needs}
-use Rattle.telling.specs.Told.{told}
 use Rattle.ffi.proofs.scans.sight_told.Statement.{statement}
 use Rattle.ffi.proofs.scans.sight_told.Tie as tie
 
@@ -8,19 +6,21 @@ enum-told : tie.Need-enum-told
 enum-told c = search needs
 
 pub sight-told-spec : {M : Type 1} → statement M
-unfolding told
 sight-told-spec =
     tie.close
     (tie.spec
     enum-told
     (λ c. search needs)
-    (λ c. search needs)
     (λ c κs. search needs)
     (λ c. search needs)
     (λ c. search needs)
     (λ c κs. search needs)
-    (λ c. rw (c .enum-told .given .1) (refl, refl))
     (λ c. search needs)
-    (λ c. rw (c .before .before .before .before .before .before .sight .given .1) (refl, c .before .before .tell .ensures))
     (λ c. search needs)
-    (λ c. rw (c .before .before .before .before .before .before .sight2 .given .1) (refl, c .before .before .tell2 .ensures)))
+    (λ c κs. search needs)
+    (λ c. search needs)
+    (λ c. rw (c .before .before .before .before .before .enum-told .given .1) (c .before .before .tell .ensures))
+    (λ c. search needs)
+    (λ c. rw (c .before .before .before .before .before .before .sight .given .1) (c .before .before .tell2 .ensures))
+    (λ c. search needs)
+    (λ c. rw (c .before .before .before .before .before .before .sight2 .given .1) (c .before .before .tell3 .ensures)))

@@ -1,5 +1,5 @@
 -- The invariant: from i on the search ends where it ends from the start.
-use Prim.Native.Nat.{ℕ, _+_, _-_, _≤_}
+use Prim.Native.Nat.{ℕ, _+_, _-_, _≤_, _<_}
 use mathlib.Core.Path.{_≡_, refl, ap, sym, _∙_}
 use native.Mathlib.Omega.{arith}
 use lib.ListN.{length, drop, length-take, length-drop}
@@ -18,12 +18,16 @@ abbrev μ-loop : tie.MeasureT-loop
 returns-2 : tie.Need-returns-2 Inv-loop μ-loop
 returns-2 c =
     let b = c .before .before .before in
-    ap (λ (n : ℕ). b .before .before .loop .i + n) (c .before .first-in .ensures) ∙ sym (first-in _ _ _ _ (b .block-end .ensures .0) (b .block-end .ensures .1) (rw (← c .before .first-in .ensures) (c .if3 .taken))) ∙ b .before .before .loop .inv .1
+    let onward : b .before .before .loop .i < b .block-end .result = omega (arith, b .block-end .ensures) in
+    let within : b .block-end .result ≤ length (b .before .before .before .before .before .args .bytes .now) = omega (arith, b .block-end .ensures) in
+    ap (λ (n : ℕ). b .before .before .loop .i + n) (c .before .first-in .ensures) ∙ sym (first-in _ _ _ _ onward within (rw (← c .before .first-in .ensures) (c .if3 .taken))) ∙ b .before .before .loop .inv .1
 
 loop-again : tie.Need-loop-again Inv-loop μ-loop
 loop-again c =
     let b = c .before .before .before in
-    (omega arith, sym (first-behind _ _ _ _ (b .block-end .ensures .0) (b .block-end .ensures .1) (rw (← c .before .first-in .ensures) (c .if3 .left))) ∙ b .before .before .loop .inv .1)
+    let onward : b .before .before .loop .i < b .block-end .result = omega (arith, b .block-end .ensures) in
+    let within : b .block-end .result ≤ length (b .before .before .before .before .before .args .bytes .now) = omega (arith, b .block-end .ensures) in
+    (omega arith, sym (first-behind _ _ _ _ onward within (rw (← c .before .first-in .ensures) (c .if3 .left))) ∙ b .before .before .loop .inv .1)
 
 pub position-spec : {M : Type 1} → statement M
 position-spec =

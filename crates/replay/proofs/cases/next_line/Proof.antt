@@ -1,11 +1,11 @@
-use Prim.Native.Nat.{_-_}
+use Prim.Native.Nat.{_-_, _≤_}
 use lib.ListN.{length}
 use borrow.Author.Needs.{needs}
 use Rattle.replay.proofs.cases.next_line.Statement.{statement}
 use Rattle.replay.proofs.cases.next_line.Tie as tie
 
 abbrev Inv-loop : tie.InvT-loop
-Inv-loop input at i₀ i = Unit {0}
+Inv-loop input at i₀ i = at ≤ i
 
 abbrev μ-loop : tie.MeasureT-loop
 μ-loop input at i₀ i = length input - i

@@ -4,10 +4,10 @@ use Rattle.replay_payload.proofs.ranges.admits_all.Statement.{statement
 use Rattle.replay_payload.proofs.ranges.admits_all.Tie as tie
 
 abbrev Inv-loop : tie.InvT-loop
-Inv-loop min max step text k r sum₀ i₀ sum i = Unit {0}
+Inv-loop r text k sum₀ i₀ sum i = Unit {0}
 
 abbrev μ-loop : tie.MeasureT-loop
-μ-loop min max step text k r sum₀ i₀ sum i = 265 - i
+μ-loop r text k sum₀ i₀ sum i = 265 - i
 
 pub admits-all-spec : {M : Type 1} → statement M
 admits-all-spec =

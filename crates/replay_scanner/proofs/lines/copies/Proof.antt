@@ -6,10 +6,10 @@ use Rattle.replay_scanner.proofs.lines.copies.Statement.{statement}
 use Rattle.replay_scanner.proofs.lines.copies.Tie as tie
 
 abbrev Inv-loop : tie.InvT-loop
-Inv-loop piece₀ n b i₀ piece i = length piece ≡ length piece₀
+Inv-loop piece₀ b i₀ piece i = length piece ≡ length piece₀
 
 abbrev μ-loop : tie.MeasureT-loop
-μ-loop piece₀ n b i₀ piece i = n - i
+μ-loop piece₀ b i₀ piece i = length piece₀ - i
 
 pub copies-spec : {M : Type 1} → statement M
 copies-spec =
@@ -18,7 +18,7 @@ copies-spec =
     Inv-loop
     μ-loop
     (λ c. search needs)
-    (λ c κs. search needs)
+    (λ c. search needs)
     (λ c. search needs)
     (λ c. search needs)
     (λ c. search needs)

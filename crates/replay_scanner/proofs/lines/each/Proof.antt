@@ -1,14 +1,19 @@
+use Prim.Native.Nat.{_-_}
 use mathlib.Core.Path.{_≡_}
+use native.Mathlib.Omega.{arith}
 use lib.ListN.{length}
 use borrow.Author.Needs.{needs}
 use Rattle.replay_scanner.proofs.lines.each.Statement.{statement}
 use Rattle.replay_scanner.proofs.lines.each.Tie as tie
 
 abbrev Inv-loop : tie.InvT-loop
-Inv-loop input store₀ piece₀ text₀ at₀ state₀ turns₀ store piece text at state turns = (length store ≡ length store₀) × ((length piece ≡ length piece₀) × (length text ≡ length text₀))
+Inv-loop input store₀ piece₀ text₀ at₀ state₀ store piece text at state = (length store ≡ length store₀) × ((length piece ≡ length piece₀) × (length text ≡ length text₀))
 
 abbrev μ-loop : tie.MeasureT-loop
-μ-loop input store₀ piece₀ text₀ at₀ state₀ turns₀ store piece text at state turns = turns
+μ-loop input store₀ piece₀ text₀ at₀ state₀ store piece text at state = length input - at
+
+loop-less : tie.Need-loop-less Inv-loop μ-loop
+loop-less c = omega (arith, c .next-line .ensures (search needs))
 
 pub each-spec : {M : Type 1} → statement M
 each-spec =
@@ -19,8 +24,9 @@ each-spec =
     (λ c. search needs)
     (λ c κs. search needs)
     (λ c κs. search needs)
-    (λ c. search needs)
-    (λ c. search needs)
+    (λ c κs. search needs)
+    (λ c κs. search needs)
+    loop-less
     (λ c. search needs)
     (λ c κs. search needs)
     (λ c. search needs)

@@ -1,0 +1,65 @@
+// Why something is refused: the number as the log prints it, and the rule in words.
+use crate::say::byte;
+use crate::say::number;
+use crate::say::say;
+use frame::Refusal;
+
+pub fn refusal(r: Refusal) {
+    refused(r);
+    say(b": ");
+    rule(r);
+}
+
+pub fn refused(r: Refusal) {
+    let n = r.number();
+    say(b"refused ");
+    number((n / 10) as usize);
+    number((n % 10) as usize);
+}
+
+pub fn rule(r: Refusal) {
+    match r {
+        Refusal::LimitOutOfRange => say(b"the limit is below 9 or above 65536"),
+        Refusal::StoreTooShort => say(b"the store has not more bytes than the limit"),
+        Refusal::HeldBeyondStore => say(b"more is held than the store has room for"),
+        Refusal::StoreFull => say(b"the store has no room for the bytes"),
+        Refusal::BadPlan => say(b"the plan has not 512 bytes, or an entry above 7"),
+        Refusal::WorkTooShort => say(b"the work area is shorter than the store"),
+        Refusal::LineTooLong => say(b"the line is longer than the output"),
+        Refusal::TooShort => say(b"fewer than 9 bytes"),
+        Refusal::NoStart => say(b"the first byte is not 3E"),
+        Refusal::NoEnd => say(b"the last byte is not 3C"),
+        Refusal::NoRoom => say(b"the work area is too short for the frame"),
+        Refusal::TrailingSentry => say(b"a 3D stands before the END with no byte to unescape"),
+        Refusal::BadEscapee(b) => escapee(b),
+        Refusal::BodyTooShort => say(b"fewer than 7 bytes between START and END, unescaped"),
+        Refusal::BadChecksum { declared, computed } => sums(declared, computed),
+        Refusal::LengthMismatch { declared, actual } => lengths(declared, actual),
+        Refusal::PayloadTooLong => say(b"the payload has more than 4294967295 bytes"),
+        Refusal::OutputTooShort => say(b"the output is too short"),
+        Refusal::OtherMessage => say(b"kind, length or contents are not those of its messages"),
+        Refusal::TooFewRecords => say(b"the list is longer than the records"),
+        Refusal::NoSuchDevice => say(b"the list has no such device"),
+        Refusal::StepZero => say(b"the range has the step 0"),
+    }
+}
+
+fn escapee(b: u8) {
+    say(b"a 3D stands before ");
+    byte(b);
+    say(b", which is none of 2C, 2D and 2E");
+}
+
+fn sums(declared: u8, computed: u8) {
+    say(b"it carries the checksum ");
+    byte(declared);
+    say(b", its bytes add up to ");
+    byte(computed);
+}
+
+fn lengths(declared: usize, actual: usize) {
+    say(b"the length says ");
+    number(declared);
+    say(b", the payload has ");
+    number(actual);
+}
