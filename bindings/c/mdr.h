@@ -27,7 +27,7 @@ enum mdr_refusal {
     MDR_STORE_TOO_SHORT = 2,    /* shorter than the limit and one byte more */
     MDR_HELD_BEYOND_STORE = 3,  /* the count is above the store's length */
     MDR_STORE_FULL = 4,         /* the piece does not fit behind the held bytes */
-    MDR_BAD_PLAN = 5,           /* not 512 bytes, or an entry above 7 */
+    MDR_BAD_PLAN = 5,           /* not 512 bytes, or an entry above 8 */
     MDR_WORK_TOO_SHORT = 6,     /* a line call's work area is shorter than the store */
     MDR_LINE_TOO_LONG = 7,      /* the line does not fit the output */
     MDR_TOO_SHORT = 8,          /* a frame of fewer than 9 bytes */
@@ -44,7 +44,8 @@ enum mdr_refusal {
     MDR_OTHER_MESSAGE = 19,    /* not this decoder's message */
     MDR_TOO_FEW_RECORDS = 20,
     MDR_NO_SUCH_DEVICE = 21,
-    MDR_STEP_ZERO = 22
+    MDR_STEP_ZERO = 22,
+    MDR_NOT_TEXT = 23 /* a setting's name or summary is not UTF-8 */
 };
 
 /* ---- frames ---- */
@@ -155,6 +156,10 @@ uint8_t mdr_support_functions(uint8_t table, const uint8_t *payload, size_t payl
 /* [slot, enabled]. */
 uint8_t mdr_general_setting(const uint8_t *payload, size_t payload_len, uint64_t *values, size_t values_len);
 
+/* [slot, offset of the name, length of the name, offset of the summary, length of the summary]. Offsets are in the payload. Lengths count
+ * bytes and may be 0. Refused by 19, then by 23 where the name or the summary is not UTF-8 (RFC 3629). */
+uint8_t mdr_general_setting_info(const uint8_t *payload, size_t payload_len, uint64_t *values, size_t values_len);
+
 /* Whether the bytes are UTF-8 (RFC 3629). */
 bool mdr_is_text(const uint8_t *bytes, size_t bytes_len);
 
@@ -181,7 +186,7 @@ int32_t mdr_gain(size_t count, uint8_t step);
 /* Writes the house plan. A plan names the decoder of each command: the first 256 entries for type 0C, the last 256 for type 0E. */
 void mdr_house_plan(uint8_t plan[MDR_PLAN_LEN]);
 
-/* Whether a plan has 512 entries, none above 7. */
+/* Whether a plan has 512 entries, none above 8. */
 bool mdr_plan_fine(const uint8_t *plan, size_t plan_len);
 
 /* [length of the line], 0 where no span is held: a line is never empty. Writes the next span's line to the front of `out`, its newline

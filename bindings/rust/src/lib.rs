@@ -30,6 +30,7 @@ pub enum Refusal {
     TooFewRecords,
     NoSuchDevice,
     StepZero,
+    NotText,
     /// a status of a later library, which this crate has no name for
     Unlisted(u8),
 }
@@ -61,6 +62,7 @@ impl Refusal {
             20 => Refusal::TooFewRecords,
             21 => Refusal::NoSuchDevice,
             22 => Refusal::StepZero,
+            23 => Refusal::NotText,
             other => Refusal::Unlisted(other),
         }
     }
@@ -90,6 +92,7 @@ impl Refusal {
             Refusal::TooFewRecords => 20,
             Refusal::NoSuchDevice => 21,
             Refusal::StepZero => 22,
+            Refusal::NotText => 23,
             Refusal::Unlisted(number) => number,
         }
     }
@@ -102,7 +105,7 @@ impl std::fmt::Display for Refusal {
             Refusal::StoreTooShort => write!(f, "the store is not longer than the limit"),
             Refusal::HeldBeyondStore => write!(f, "more bytes are held than the store has"),
             Refusal::StoreFull => write!(f, "the piece does not fit behind the held bytes"),
-            Refusal::BadPlan => write!(f, "the plan does not have 512 entries, or one is above 7"),
+            Refusal::BadPlan => write!(f, "the plan does not have 512 entries, or one is above 8"),
             Refusal::WorkTooShort => write!(f, "the work area is shorter than the store"),
             Refusal::LineTooLong => write!(f, "the line does not fit the output"),
             Refusal::TooShort => write!(f, "the frame has fewer than 9 bytes"),
@@ -124,6 +127,7 @@ impl std::fmt::Display for Refusal {
             Refusal::TooFewRecords => write!(f, "the list has more functions than there are records"),
             Refusal::NoSuchDevice => write!(f, "the index is not below the count of devices"),
             Refusal::StepZero => write!(f, "the level lies within a range whose step is 0"),
+            Refusal::NotText => write!(f, "the name or the summary of the setting is not UTF-8"),
             Refusal::Unlisted(number) => write!(f, "refused by {number}, for which there is no name here"),
         }
     }
@@ -607,6 +611,21 @@ pub struct GeneralSetting {
 pub fn general_setting(payload: &[u8]) -> Result<GeneralSetting, Refusal> {
     let v: [u64; 2] = told(|v, n| unsafe { sys::mdr_general_setting(payload.as_ptr(), payload.len(), v, n) })?;
     Ok(GeneralSetting { slot: v[0] as u8, enabled: v[1] == 1 })
+}
+
+/// What a setting is called.
+#[derive(Clone, Copy, Debug, PartialEq, Eq)]
+pub struct GeneralSettingInfo<'a> {
+    pub slot: u8,
+    pub name: &'a str,
+    pub summary: &'a str,
+}
+
+pub fn general_setting_info(payload: &[u8]) -> Result<GeneralSettingInfo<'_>, Refusal> {
+    let v: [u64; 5] = told(|v, n| unsafe { sys::mdr_general_setting_info(payload.as_ptr(), payload.len(), v, n) })?;
+    let part = |at: u64, len: u64| &payload[at as usize..(at + len) as usize];
+    let text = |at: u64, len: u64| std::str::from_utf8(part(at, len)).expect("the library accepts only text");
+    Ok(GeneralSettingInfo { slot: v[0] as u8, name: text(v[1], v[2]), summary: text(v[3], v[4]) })
 }
 
 /// Whether the bytes are UTF-8 (RFC 3629).

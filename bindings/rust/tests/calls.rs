@@ -50,8 +50,11 @@ fn refusals() {
     let error: &dyn std::error::Error = &refusal;
     assert_eq!(error.to_string(), "the frame carries the checksum 02, its bytes have 03");
     assert_eq!(refusal.number(), 15);
-    assert_eq!(Refusal::Unlisted(23).number(), 23);
-    assert_eq!(Refusal::Unlisted(23).to_string(), "refused by 23, for which there is no name here");
+    assert_eq!(Refusal::NotText.number(), 23);
+    assert_eq!(Refusal::NotText.to_string(), "the name or the summary of the setting is not UTF-8");
+    assert_eq!(Refusal::BadPlan.to_string(), "the plan does not have 512 entries, or one is above 8");
+    assert_eq!(Refusal::Unlisted(24).number(), 24);
+    assert_eq!(Refusal::Unlisted(24).to_string(), "refused by 24, for which there is no name here");
 }
 
 #[test]
@@ -92,6 +95,8 @@ fn lines() {
     let plan = house_plan();
     assert!(plan_fine(&plan));
     assert!(!plan_fine(&plan[..511]));
+    assert!(plan_fine(&[8; PLAN_LEN]));
+    assert!(!plan_fine(&[9; PLAN_LEN]));
     let (mut store, mut work, mut out) = ([0; 64], [0xEE; 64], [0xEE; 128]);
     let mut s = Scanner::open(60, &mut store).unwrap();
     s.push(&mut store, &[0x3E, 0x3C]).unwrap();
@@ -101,6 +106,18 @@ fn lines() {
     assert_eq!(s.line(&mut store, &plan, &mut work, &mut out), Ok(Some(5)));
     assert_eq!((s.count, &out[..6]), (0, &b"R 08\n\xEE"[..]));
     assert_eq!(s.line(&mut store, &plan, &mut work, &mut out), Ok(None));
+
+    // A setting's name and summary: the whole frame where both are text, else its head.
+    let mut frame = [0; 64];
+    for (payload, line) in [
+        (&b"\xD1\xD2\x00\x01\x01A\x00"[..], &b"F 3E0C0000000007D1D20001014100F93C\n"[..]),
+        (b"\xD1\xD2\x00\x01\x01\xFF\x00", b"H 0C0000000007D1\n"),
+    ] {
+        let len = pack(DataType::DataMdr, 0, payload, &mut frame).unwrap();
+        s.push(&mut store, &frame[..len]).unwrap();
+        assert_eq!(s.line(&mut store, &plan, &mut work, &mut out), Ok(Some(line.len())));
+        assert_eq!(&out[..line.len()], line);
+    }
 }
 
 #[test]
@@ -122,6 +139,22 @@ fn fixed_readings() {
 
     assert_eq!(general_setting(&[0xD7, 0xD1, 0x00, 0x00]), Ok(GeneralSetting { slot: 0xD1, enabled: true }));
     assert_eq!(general_setting(&[0xD7, 0xD1, 0x00, 0x01]), Ok(GeneralSetting { slot: 0xD1, enabled: false }));
+}
+
+#[test]
+fn setting_texts() {
+    let info = GeneralSettingInfo { slot: 0xD2, name: "été", summary: "Al" };
+    assert_eq!(general_setting_info(b"\xD1\xD2\x00\x01\x05\xC3\xA9t\xC3\xA9\x02Al"), Ok(info));
+    let empty = GeneralSettingInfo { slot: 0xD1, name: "", summary: "" };
+    assert_eq!(general_setting_info(&[0xD1, 0xD1, 0x00, 0x00, 0, 0]), Ok(empty));
+
+    // Another type, another string format, a byte left over, a byte short, and nothing.
+    for other in [&[0xD1, 1, 1, 0, 0, 0][..], &[0xD1, 1, 0, 2, 0, 0], &[0xD1, 1, 0, 0, 0, 0, 0], &[0xD1, 1, 0, 0, 0], &[]] {
+        assert_eq!(general_setting_info(other), Err(Refusal::OtherMessage));
+    }
+    assert_eq!(general_setting_info(&[0xD1, 0xD1, 0, 0, 1, 0xFF, 0]), Err(Refusal::NotText));
+    assert_eq!(general_setting_info(&[0xD1, 0xD1, 0, 0, 0, 2, 0xC0, 0x80]), Err(Refusal::NotText));
+    assert_eq!(general_setting_info(&[0xD1, 0xD1, 0, 0, 1, 0xFF, 1]), Err(Refusal::OtherMessage));
 }
 
 #[test]

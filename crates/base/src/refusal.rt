@@ -25,6 +25,7 @@ pub enum Refusal {
     TooFewRecords,
     NoSuchDevice,
     StepZero,
+    NotText,
 }
 
 impl Refusal {
@@ -61,6 +62,7 @@ impl Refusal {
             Refusal::TooFewRecords => 20,
             Refusal::NoSuchDevice => 21,
             Refusal::StepZero => 22,
+            Refusal::NotText => 23,
         }
     }
 }

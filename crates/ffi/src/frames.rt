@@ -11,7 +11,7 @@ ghost use Rattle.base.specs.Writing.{writeCall, writtenTold};
 ghost use Rattle.escaping.specs.Escaping.{escapeOf, unescapeCall};
 ghost use Rattle.framing.specs.Framing.{packCall, ackCall, unpackCall};
 ghost use Rattle.telling.specs.Told.{statusOf, numbersOf, told, only};
-ghost use Rattle.ffi.specs.Numbers.{typeNumber, headerNumbers};
+ghost use Rattle.numbers.specs.Numbers.{typeNumber, headerNumbers};
 
 #[no_mangle]
 pub extern "C" fn mdr_data_type(byte: u8) -> u8

@@ -2,7 +2,6 @@
 use capability::Admitted;
 use capability::AmbientRange;
 use capability::CapabilityAnswer;
-use capability::CapabilityReport;
 use capability::Narrowed;
 use lists::EqAnswer;
 use lists::EqShape;
@@ -11,21 +10,21 @@ use lists::SupportCheck;
 use lists::SupportFunction;
 use lists::Table;
 use lists::decode_support_functions;
-use paired::PairedDevice;
+use numbers::battery;
+use numbers::byte_or;
+use numbers::device;
+use numbers::flag;
+use numbers::noise;
+use numbers::ranges;
+use numbers::setting_info;
 use paired::PairedDevices;
 use paired::PairedLookup;
 use payload::BatteryAnswer;
-use payload::BatteryReport;
-use payload::Charging;
 use payload::Message;
 use payload::NoiseAnswer;
-use payload::NoiseMode;
-use payload::NoiseReport;
-use payload::OptionByte;
-use payload::OptionCell;
-use payload::OptionFlag;
 use payload::SettingAnswer;
 use payload::Split;
+use setting_info::SettingInfoAnswer;
 use telling::refuse;
 use telling::tell;
 ghost use mathlib.Core.Path.{_≡_};
@@ -34,6 +33,7 @@ ghost use Rattle.reading.specs.Message.{splitOf};
 ghost use Rattle.battery.specs.Battery.{batteryOf};
 ghost use Rattle.noise.specs.Noise.{noiseOf};
 ghost use Rattle.payload.specs.Setting.{settingOf};
+ghost use Rattle.setting_info.specs.SettingInfo.{infoOf};
 ghost use Rattle.paired.specs.Paired.{pairedOf, lookupOf, maskedOf};
 ghost use Rattle.text.specs.Text.{isTextOf};
 ghost use Rattle.capability.specs.Capability.{capabilityOf};
@@ -41,33 +41,7 @@ ghost use Rattle.range.specs.Range.{admitsOf, admittedTold, withinOf};
 ghost use Rattle.equalizer.specs.Equalizer.{equalizerOf, stepsOf, shapeOf, biasOf, gainOf};
 ghost use Rattle.support.specs.Support.{checkOf, supportCall, supportTold};
 ghost use Rattle.telling.specs.Told.{statusOf, numbersOf, told, only};
-ghost use Rattle.ffi.specs.Numbers.{bit, bitNumbers, byteOr256, flagOr2, messageNumbers, chargingNumber, cellNumbers, batteryNumbers, modeNumber, noiseNumbers, reportNumbers, capabilityNumbers, equalizerNumbers, deviceNumbers, settingNumbers, listNumbers, tableOf, unvoiced, withinNumbers, shapeNumber};
-
-const ABSENT: u64 = 256;
-
-fn byte_or(b: OptionByte) -> u64
-    ensures { λ r. ⌜ r ≡ byteOr256 b ⌝ }
-{
-    match b {
-        OptionByte::Byte(value) => value as u64,
-        OptionByte::NoByte => ABSENT,
-    }
-}
-
-fn flag(on: bool) -> u64
-    ensures { λ r. ⌜ r ≡ bit on ⌝ }
-{
-    if on { 1 } else { 0 }
-}
-
-fn flag_or(f: OptionFlag) -> u64
-    ensures { λ r. ⌜ r ≡ flagOr2 f ⌝ }
-{
-    match f {
-        OptionFlag::Flag(on) => flag(on),
-        OptionFlag::NoFlag => 2,
-    }
-}
+ghost use Rattle.numbers.specs.Numbers.{bitNumbers, messageNumbers, batteryNumbers, noiseNumbers, capabilityNumbers, equalizerNumbers, deviceNumbers, settingNumbers, infoNumbers, listNumbers, tableOf, unvoiced, withinNumbers, shapeNumber};
 
 #[no_mangle]
 pub extern "C" fn mdr_message(payload: &[u8], values: &mut [u64]) -> u8
@@ -85,58 +59,6 @@ pub extern "C" fn mdr_message(payload: &[u8], values: &mut [u64]) -> u8
     }
 }
 
-fn charging(c: Charging) -> u64
-    ensures { λ r. ⌜ r ≡ chargingNumber c ⌝ }
-{
-    match c {
-        Charging::No => 0,
-        Charging::Yes => 1,
-        Charging::Unknown => 2,
-        Charging::Charged => 3,
-        Charging::Other(b) => 256 + b as u64,
-    }
-}
-
-fn cell(c: OptionCell) -> [u64; 3]
-    ensures { λ r. ⌜ r ≡ cellNumbers c ⌝ }
-{
-    match c {
-        OptionCell::Present(there) => {
-            let status = there.charging;
-            let threshold = there.threshold;
-            [there.level as u64, charging(status), byte_or(threshold)]
-        }
-        OptionCell::Absent => [ABSENT, ABSENT, ABSENT],
-    }
-}
-
-fn battery(report: BatteryReport) -> [u64; 12]
-    ensures { λ r. ⌜ r ≡ batteryNumbers report ⌝ }
-{
-    let main = report.main;
-    let left = report.left;
-    let right = report.right;
-    let case = report.case;
-    let m = cell(main);
-    let l = cell(left);
-    let r = cell(right);
-    let c = cell(case);
-    [
-        m[0],
-        m[1],
-        m[2],
-        l[0],
-        l[1],
-        l[2],
-        r[0],
-        r[1],
-        r[2],
-        c[0],
-        c[1],
-        c[2],
-    ]
-}
-
 #[no_mangle]
 pub extern "C" fn mdr_battery(payload: &[u8], values: &mut [u64]) -> u8
     ensures { λ r. ⌜ r ≡ statusOf (batteryOf (now (payload .entry))) ⌝ }
@@ -152,36 +74,6 @@ pub extern "C" fn mdr_battery(payload: &[u8], values: &mut [u64]) -> u8
     }
 }
 
-fn noise_mode(m: NoiseMode) -> u64
-    ensures { λ r. ⌜ r ≡ modeNumber m ⌝ }
-{
-    match m {
-        NoiseMode::Off => 0,
-        NoiseMode::Anc => 1,
-        NoiseMode::Ambient => 2,
-    }
-}
-
-fn noise(report: NoiseReport) -> [u64; 7]
-    ensures { λ r. ⌜ r ≡ noiseNumbers report ⌝ }
-{
-    let mode = report.mode;
-    let mode_byte = report.mode_byte;
-    let level = report.ambient_level;
-    let focus = report.focus_on_voice;
-    let adaptive = report.adaptive;
-    let sensitivity = report.adaptive_sensitivity;
-    [
-        noise_mode(mode),
-        byte_or(mode_byte),
-        byte_or(level),
-        flag_or(focus),
-        flag(report.settled),
-        flag_or(adaptive),
-        byte_or(sensitivity),
-    ]
-}
-
 #[no_mangle]
 pub extern "C" fn mdr_noise(payload: &[u8], values: &mut [u64]) -> u8
     ensures { λ r. ⌜ r ≡ statusOf (noiseOf (now (payload .entry))) ⌝ }
@@ -195,26 +87,6 @@ pub extern "C" fn mdr_noise(payload: &[u8], values: &mut [u64]) -> u8
         }
         NoiseAnswer::Refused(r) => refuse(r, values),
     }
-}
-
-fn ranges(kind: u8, report: CapabilityReport) -> [u64; 10]
-    ensures { λ r. ⌜ r ≡ reportNumbers kind report ⌝ }
-{
-    let ranges = report.ranges;
-    let a = ranges[0];
-    let b = ranges[1];
-    [
-        kind as u64,
-        report.count as u64,
-        flag(a.voice),
-        a.min as u64,
-        a.max as u64,
-        a.step as u64,
-        flag(b.voice),
-        b.min as u64,
-        b.max as u64,
-        b.step as u64,
-    ]
 }
 
 #[no_mangle]
@@ -264,21 +136,6 @@ pub extern "C" fn mdr_paired_devices(payload: &[u8], values: &mut [u64]) -> u8
         }
         PairedDevices::Refused(r) => refuse(r, values),
     }
-}
-
-fn device(d: PairedDevice) -> [u64; 8]
-    ensures { λ r. ⌜ r ≡ deviceNumbers d ⌝ }
-{
-    [
-        d.address as u64,
-        d.status as u64,
-        d.detail0 as u64,
-        d.detail1 as u64,
-        d.detail2 as u64,
-        d.name as u64,
-        d.len as u64,
-        flag(d.text),
-    ]
 }
 
 #[no_mangle]
@@ -367,6 +224,21 @@ pub extern "C" fn mdr_general_setting(payload: &[u8], values: &mut [u64]) -> u8
             0
         }
         SettingAnswer::Refused(r) => refuse(r, values),
+    }
+}
+
+#[no_mangle]
+pub extern "C" fn mdr_general_setting_info(payload: &[u8], values: &mut [u64]) -> u8
+    ensures { λ r. ⌜ r ≡ statusOf (infoOf (now (payload .entry))) ⌝ }
+    ensures { λ _. ⌜ now (values .exit) ≡ told (numbersOf infoNumbers (infoOf (now (payload .entry)))) (now (values .entry)) ⌝ }
+{
+    match setting_info::decode_general_setting_info(payload) {
+        SettingInfoAnswer::Info(s) => {
+            let numbers = setting_info(s);
+            tell(&numbers, values);
+            0
+        }
+        SettingInfoAnswer::Refused(r) => refuse(r, values),
     }
 }
 

@@ -15,7 +15,7 @@ ghost use Rattle.scanner.specs.Finding.{findCall, foundTold};
 ghost use Rattle.scanner.specs.Skipping.{skipCall, skipTold};
 ghost use Rattle.scanner.specs.Taking.{takeCall, takeTold};
 ghost use Rattle.telling.specs.Told.{statusOf, numbersOf, told};
-ghost use Rattle.ffi.specs.Numbers.{bitNumbers, spotNumbers, sightNumbers};
+ghost use Rattle.numbers.specs.Numbers.{bitNumbers, spotNumbers, sightNumbers};
 
 // What a call by value comes to, which the exported call stores and returns.
 pub struct Stated {

@@ -1,4 +1,4 @@
-// The readings of battery, noise control, its capability and a setting, in words.
+// The readings of battery, noise control and its capability in words.
 use crate::say::byte;
 use crate::say::counted;
 use crate::say::number;
@@ -10,7 +10,6 @@ use capability::CapabilityReport;
 use payload::BatteryReport;
 use payload::Cell;
 use payload::Charging;
-use payload::GeneralSettingParam;
 use payload::NoiseMode;
 use payload::NoiseReport;
 use payload::OptionByte;
@@ -129,14 +128,4 @@ fn range(r: AmbientRange) {
     number(r.max as usize);
     say(b" by ");
     number(r.step as usize);
-}
-
-pub fn setting_param(p: GeneralSettingParam) {
-    say(b"setting of slot ");
-    byte(p.slot);
-    if p.enabled {
-        say(b" on");
-    } else {
-        say(b" off");
-    }
 }

@@ -12,6 +12,7 @@ mod parse;
 mod readings;
 mod rules;
 mod say;
+mod settings;
 mod shown;
 mod spans;
 

@@ -5,13 +5,14 @@ use crate::counts::functions_report;
 use crate::levels::battery_report;
 use crate::levels::capability_report;
 use crate::levels::noise_report;
-use crate::levels::setting_param;
 use crate::rules::refusal;
 use crate::rules::refused;
 use crate::rules::rule;
 use crate::say::byte;
 use crate::say::part;
 use crate::say::say;
+use crate::settings::general_setting;
+use crate::settings::setting_param;
 use capability::CapabilityAnswer;
 use frame::Refusal;
 use frame::Unpacked;
@@ -23,6 +24,7 @@ use paired::PairedDevices;
 use payload::BatteryAnswer;
 use payload::NoiseAnswer;
 use payload::SettingAnswer;
+use setting_info::SettingInfoAnswer;
 
 pub fn unpacked(span: &[u8], plan: &[u8], work: &mut [u8]) {
     match frame::unpack(span, work) {
@@ -63,6 +65,7 @@ fn by_table(kind: u8, table: Table, payload: &[u8], plan: &[u8]) {
         5 => paired(payload),
         6 => functions(table, payload),
         7 => setting(payload),
+        8 => setting_texts(payload),
         _ => no_entry(command),
     }
 }
@@ -139,5 +142,12 @@ fn setting(payload: &[u8]) {
     match payload::decode_general_setting_param(payload) {
         SettingAnswer::Param(p) => setting_param(p),
         SettingAnswer::Refused(r) => withheld(b"setting", r),
+    }
+}
+
+fn setting_texts(payload: &[u8]) {
+    match setting_info::decode_general_setting_info(payload) {
+        SettingInfoAnswer::Info(s) => general_setting(s, payload),
+        SettingInfoAnswer::Refused(r) => withheld(b"setting text", r),
     }
 }

@@ -23,7 +23,7 @@ pub fn rule(r: Refusal) {
         Refusal::StoreTooShort => say(b"the store has not more bytes than the limit"),
         Refusal::HeldBeyondStore => say(b"more is held than the store has room for"),
         Refusal::StoreFull => say(b"the store has no room for the bytes"),
-        Refusal::BadPlan => say(b"the plan has not 512 bytes, or an entry above 7"),
+        Refusal::BadPlan => say(b"the plan has not 512 bytes, or an entry above 8"),
         Refusal::WorkTooShort => say(b"the work area is shorter than the store"),
         Refusal::LineTooLong => say(b"the line is longer than the output"),
         Refusal::TooShort => say(b"fewer than 9 bytes"),
@@ -41,6 +41,7 @@ pub fn rule(r: Refusal) {
         Refusal::TooFewRecords => say(b"the list is longer than the records"),
         Refusal::NoSuchDevice => say(b"the list has no such device"),
         Refusal::StepZero => say(b"the range has the step 0"),
+        Refusal::NotText => say(b"a text is not UTF-8 (RFC 3629)"),
     }
 }
 

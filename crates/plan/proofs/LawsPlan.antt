@@ -21,11 +21,11 @@ module _ (plan : List ℕ) (i : ℕ) where
   fine-end h false = refl
 
   module _ (h : i < length plan) where
-    pub fine-not : 7 < getD plan i 0 → (fine : Bool) → fineFrom fine plan i ≡ fineFrom false plan (i + 1)
+    pub fine-not : 8 < getD plan i 0 → (fine : Bool) → fineFrom fine plan i ≡ fineFrom false plan (i + 1)
     unfolding entriesFine fineFrom
-    fine-not k true = rw (drop-cons plan i 0 h, lt-ltb 7 (getD plan i 0) k)
+    fine-not k true = rw (drop-cons plan i 0 h, lt-ltb 8 (getD plan i 0) k)
     fine-not k false = refl
 
-    pub fine-step : getD plan i 0 ≤ 7 → (fine : Bool) → fineFrom fine plan (i + 1) ≡ fineFrom fine plan i
+    pub fine-step : getD plan i 0 ≤ 8 → (fine : Bool) → fineFrom fine plan (i + 1) ≡ fineFrom fine plan i
     unfolding entriesFine fineFrom
-    fine-step k fine = rw (drop-cons plan i 0 h, le-ltb 7 (getD plan i 0) k, add-one i)
+    fine-step k fine = rw (drop-cons plan i 0 h, le-ltb 8 (getD plan i 0) k, add-one i)

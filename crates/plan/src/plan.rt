@@ -7,7 +7,7 @@ const PLAN_LEN: usize = 512;
 
 const TABLE_LEN: usize = 256;
 
-const LAST_ENTRY: u8 = 7;
+const LAST_ENTRY: u8 = 8;
 
 pub fn house_plan() -> [u8; 512]
     ensures { λ r. ⌜ r ≡ housePlan ⌝ }
@@ -21,6 +21,7 @@ pub fn house_plan() -> [u8; 512]
     plan[0x61] = 3;
     plan[0x67] = 2;
     plan[0x69] = 2;
+    plan[0xD1] = 8;
     plan[0xD7] = 7;
     plan[0xD9] = 7;
     plan[TABLE_LEN + 0x07] = 6;

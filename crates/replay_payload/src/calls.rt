@@ -31,6 +31,8 @@ use replay::mix;
 use replay::number;
 use replay::refusal;
 use replay::word;
+use setting_info::SettingInfoAnswer;
+use setting_info::SettingText;
 
 pub fn reading(
     op: u8,
@@ -49,6 +51,7 @@ pub fn reading(
         b'p' => paired(payload, text, k),
         b'f' => support(table, payload, records, text, k),
         b'g' => setting(payload, text, k),
+        b'i' => setting_info(payload, text, k),
         b'y' => flag(text, k, paired::is_text(payload)),
         _ => word(text, k, b"unknown"),
     }
@@ -315,4 +318,23 @@ fn setting(payload: &[u8], text: &mut [u8], k: usize) -> usize {
         }
         SettingAnswer::Refused(r) => refusal(text, k, r),
     }
+}
+
+// The slot, and offset and length of both texts.
+fn setting_info(payload: &[u8], text: &mut [u8], k: usize) -> usize {
+    match setting_info::decode_general_setting_info(payload) {
+        SettingInfoAnswer::Info(s) => {
+            let name = s.name;
+            let summary = s.summary;
+            let a = number(text, k, s.slot as u64);
+            let b = setting_text(text, a, name);
+            setting_text(text, b, summary)
+        }
+        SettingInfoAnswer::Refused(r) => refusal(text, k, r),
+    }
+}
+
+fn setting_text(text: &mut [u8], k: usize, t: SettingText) -> usize {
+    let next = number(text, k, t.offset as u64);
+    number(text, next, t.len as u64)
 }

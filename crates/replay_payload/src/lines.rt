@@ -51,6 +51,7 @@ fn answer(
         b'k' => number(text, k, hex_field(input, at, 1, kept) as u64),
         b'x' => change(input, at, kept, text, k),
         b'v' => values(input, at, kept, records, scratch, text, k),
+        b'l' => lengths(input, at, kept, records, scratch, text, k),
         b'a' => admits_all(range_of(input, at), text, k),
         b'w' => within_all(range_of(input, at), text, k),
         b't' => texts(
@@ -130,6 +131,28 @@ fn values(
         let end = reading(op, Table::One, first(kept, n), records, scratch, 0);
         sum = mix_first(sum, scratch, end);
         b += 1;
+    }
+    number(text, k, sum)
+}
+
+// The reading for each length below N.
+fn lengths(
+    input: &[u8],
+    at: usize,
+    kept: &[u8],
+    records: &mut [u8],
+    scratch: &mut [u8],
+    text: &mut [u8],
+    k: usize,
+) -> usize {
+    let n = number_field(input, at, 1);
+    let op = letter(input, replay::field(input, at, 2));
+    let mut sum: u64 = 0;
+    let mut len: usize = 0;
+    while len < n {
+        let end = reading(op, Table::One, first(kept, len), records, scratch, 0);
+        sum = mix_first(sum, scratch, end);
+        len += 1;
     }
     number(text, k, sum)
 }

@@ -12,8 +12,10 @@
 //   p N              paired devices: the count, and the lookup of each index up to the count
 //   f N M TABLE      support functions, in M records lent; and the check that writes nothing
 //   g N              general setting
+//   i N              a setting's texts: the slot, and offset and length of name and summary
 //   y N              whether the bytes are text
 //   v N AT L         the reading of letter L for each of the 256 bytes at the place AT, by their sum
+//   l N L            the reading of letter L for each length below N, by their sum
 //   a MIN MAX STEP   admits, of the 256 levels of a byte and nine beyond them
 //   w MIN MAX STEP   within, of every pair of 28 bounds
 //   t N BYTE         whether strings of N bytes are text that begin with BYTE: every one of 1 to 3 bytes, some of 4

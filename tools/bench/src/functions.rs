@@ -7,8 +7,8 @@ use original::mdr::DataType;
 use original::mdr::frame::{self, checksum, escape_into, pack, pack_into, unescape, unpack};
 use original::mdr::frame_8192;
 use original::mdr::payload::{
-    Message, Reading, Table, decode_battery, decode_equalizer, decode_general_setting_param, decode_noise,
-    decode_noise_capability, decode_paired_devices, decode_support_functions,
+    Message, Reading, Table, decode_battery, decode_equalizer, decode_general_setting_info, decode_general_setting_param,
+    decode_noise, decode_noise_capability, decode_paired_devices, decode_support_functions,
 };
 use std::hint::black_box;
 
@@ -230,6 +230,8 @@ fn decoders() {
     decoder("support functions: the count and each function", 6, 16, every_function, support_functions);
     decoder("general setting", 7, 16, ours::general_setting, decode_general_setting_param);
     decoder("general setting, its numbers not asked for", 7, 0, ours::general_setting, decode_general_setting_param);
+    decoder("setting texts", 8, 16, ours::general_setting_info, decode_general_setting_info);
+    decoder("setting texts, their numbers not asked for", 8, 0, ours::general_setting_info, decode_general_setting_info);
 
     let mut c = Choice::new(8);
     let names: Vec<Vec<u8>> = (0..INPUTS).map(|_| frames::name(&mut c)).collect();

@@ -11,7 +11,7 @@ pub const SENTRY: u8 = 0x3D;
 pub const MARKS: [u8; 9] = [END, SENTRY, START, 0x2C, 0x2D, 0x2E, 0x00, 0x3B, 0x3F];
 
 /// The house plan's entries: type, command, entry.
-pub const HOUSE: [(u8, u8, u8); 13] = [
+pub const HOUSE: [(u8, u8, u8); 14] = [
     (0x0C, 0x07, 6),
     (0x0C, 0x23, 1),
     (0x0C, 0x25, 1),
@@ -20,6 +20,7 @@ pub const HOUSE: [(u8, u8, u8); 13] = [
     (0x0C, 0x61, 3),
     (0x0C, 0x67, 2),
     (0x0C, 0x69, 2),
+    (0x0C, 0xD1, 8),
     (0x0C, 0xD7, 7),
     (0x0C, 0xD9, 7),
     (0x0E, 0x07, 6),
@@ -113,6 +114,46 @@ pub fn setting(c: &mut Choice, command: u8) -> Vec<u8> {
     vec![command, value(c, &[0xD1, 0xD2, 0xD3, 0xD4]), 0x00, c.below(2) as u8]
 }
 
+/// Text, at most 255 bytes of it.
+pub fn text(c: &mut Choice) -> Vec<u8> {
+    match c.below(10) {
+        0 => vec![],
+        1 => "Téléphone de Zoë".into(),
+        2 => "ヘッドホン 🎧".into(),
+        3 => vec![b't'; c.below(256)],
+        4 => (0..c.below(20)).map(|_| c.of(&[END, SENTRY, START])).collect(),
+        5 => {
+            let letter = c.of(&[
+                '\u{7F}',
+                '\u{80}',
+                '\u{7FF}',
+                '\u{800}',
+                '\u{D7FF}',
+                '\u{E000}',
+                '\u{FFFF}',
+                '\u{10000}',
+                '\u{40000}',
+                '\u{10FFFF}',
+            ]);
+            let n = c.below(255 / letter.len_utf8() + 1);
+            String::from(letter).repeat(n).into()
+        }
+        _ => c
+            .of(&["SIDETONE_SETTING", "MULTIPOINT_SETTING", "MULTIPOINT_SETTING_SUMMARY_LDAC_AVAILABLE", "TOUCH_PANEL_SETTING"])
+            .into(),
+    }
+}
+
+/// What a setting is called: a name and a summary.
+pub fn setting_info(c: &mut Choice, command: u8) -> Vec<u8> {
+    let mut p = vec![command, value(c, &[0xD1, 0xD2, 0xD3, 0xD4]), 0x00, c.below(2) as u8];
+    for text in [text(c), text(c)] {
+        p.push(text.len() as u8);
+        p.extend(text);
+    }
+    p
+}
+
 /// What other machines call themselves; some are no text.
 pub fn name(c: &mut Choice) -> Vec<u8> {
     match c.below(12) {
@@ -160,7 +201,8 @@ pub fn accepted(c: &mut Choice, entry: u8, command: u8) -> Vec<u8> {
             let count = if c.one_in(4) { c.below(256) } else { c.below(50) };
             support(c, command, count)
         }
-        _ => setting(c, command),
+        7 => setting(c, command),
+        _ => setting_info(c, command),
     }
 }
 

@@ -3,4 +3,5 @@
 pub mod choice;
 pub mod frames;
 pub mod log;
+pub mod settings;
 pub mod streams;

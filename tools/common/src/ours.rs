@@ -126,6 +126,10 @@ pub fn general_setting(payload: &[u8], values: &mut [u64]) -> u8 {
     unsafe { sys::mdr_general_setting(payload.as_ptr(), payload.len(), values.as_mut_ptr(), values.len()) }
 }
 
+pub fn general_setting_info(payload: &[u8], values: &mut [u64]) -> u8 {
+    unsafe { sys::mdr_general_setting_info(payload.as_ptr(), payload.len(), values.as_mut_ptr(), values.len()) }
+}
+
 pub fn is_text(bytes: &[u8]) -> bool {
     unsafe { sys::mdr_is_text(bytes.as_ptr(), bytes.len()) }
 }

@@ -1,7 +1,7 @@
 //! Long streams, as a headset's link might carry them.
 use crate::choice::Choice;
 use crate::frames::{
-    END, START, accepted, battery, capability, damage, equalizer, framed, name, noise, paired, setting, support,
+    END, START, accepted, battery, capability, damage, equalizer, framed, name, noise, paired, setting, setting_info, support,
 };
 
 #[derive(Clone, Copy, Debug, PartialEq)]
@@ -52,7 +52,8 @@ fn session(c: &mut Choice, seq: u8, out: &mut Vec<u8>) {
         20..42 => (0x0C, noise(c, either(seq, 0x67, 0x69))),
         42..46 => (0x0C, capability(c, 0x61)),
         46..56 => (0x0C, equalizer(c, either(seq, 0x57, 0x59))),
-        56..66 => (0x0C, setting(c, either(seq, 0xD7, 0xD9))),
+        56..63 => (0x0C, setting(c, either(seq, 0xD7, 0xD9))),
+        63..66 => (0x0C, setting_info(c, 0xD1)),
         66..70 => {
             let count = c.between(10, 60);
             (c.of(&[0x0C, 0x0E]), support(c, 0x07, count))

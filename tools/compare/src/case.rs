@@ -29,9 +29,9 @@ impl Tally {
                 self.counts.iter().filter(|(key, _)| key.0 == entry).map(|(key, &n)| (key.1, n)).collect();
             let count: u64 = of_it.iter().map(|(_, n)| n).sum();
             let outcomes: Vec<String> = of_it.iter().map(|&(outcome, n)| format!("{}: {n}", name(outcome))).collect();
-            println!("{entry:<18}{count:>10}   {}", if of_it.len() > 1 { outcomes.join(", ") } else { String::new() });
+            println!("{entry:<22}{count:>10}   {}", if of_it.len() > 1 { outcomes.join(", ") } else { String::new() });
         }
-        println!("{:<18}{:>10}", "in all", self.total);
+        println!("{:<22}{:>10}", "in all", self.total);
     }
 }
 

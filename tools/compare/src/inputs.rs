@@ -64,6 +64,11 @@ pub fn any(c: &mut Choice) -> Vec<u8> {
     content(c, n)
 }
 
+/// What a setting is called, by bytes that may be no text.
+pub fn setting_texts(name: &[u8], summary: &[u8]) -> Vec<u8> {
+    [&[0xD1, 0xD1, 0x00, 0x01, name.len() as u8], name, &[summary.len() as u8], summary].concat()
+}
+
 /// The lent buffer's length less the least that will do: exactly full and one short most often.
 pub fn room(c: &mut Choice) -> isize {
     match c.below(10) {

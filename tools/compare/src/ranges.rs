@@ -123,14 +123,14 @@ impl Case for Steps {
     }
 }
 
-/// Whether a plan is one: 01's rule.
+/// Whether a plan is one: the rule of 01 and 02.
 #[derive(Clone, Debug)]
 pub struct Plan {
     bytes: Vec<u8>,
 }
 
 pub fn is_plan(bytes: &[u8]) -> bool {
-    bytes.len() == 512 && bytes.iter().all(|&b| b <= 7)
+    bytes.len() == 512 && bytes.iter().all(|&b| b <= 8)
 }
 
 impl Case for Plan {
@@ -196,12 +196,12 @@ pub fn exhaustive(run: &mut Run) {
     }
     run.case(&House);
     for n in (0..=4).chain(500..=520).chain([1_024]) {
-        for entry in [0, 7, 8, 255] {
+        for entry in [0, 7, 8, 9, 255] {
             run.case(&Plan { bytes: vec![entry; n] });
         }
     }
     for at in 0..512 {
-        for entry in [1, 6, 7, 8, 9, 128, 255] {
+        for entry in [1, 7, 8, 9, 10, 128, 255] {
             let mut bytes = frames::house_plan();
             bytes[at] = entry;
             run.case(&Plan { bytes });
@@ -216,7 +216,7 @@ pub fn random(run: &mut Run, c: &mut Choice) {
     run.case(&Range { call, min: c.byte(), max: c.byte(), step, values: values(c) });
     if c.one_in(8) {
         let n = if c.one_in(4) { c.between(505, 520) } else { 512 };
-        let mut bytes: Vec<u8> = (0..n).map(|_| c.below(8) as u8).collect();
+        let mut bytes: Vec<u8> = (0..n).map(|_| c.below(9) as u8).collect();
         if c.one_in(2) {
             let at = c.below(n);
             bytes[at] = c.byte();

@@ -1,9 +1,10 @@
-//! Message split, the seven readings, the lookup of a paired device, masking and text beside the Rust's.
+//! Message split, the eight readings, the lookup of a paired device, masking and text beside the Rust's.
 use crate::case::{Case, Run, Tally, fewer, hex};
-use crate::inputs::{any, content, room, shortest, strings, values};
+use crate::inputs::{any, content, room, setting_texts, shortest, strings, values};
 use crate::lent::{Lent, MOST_VALUES, Told, Values, left_difference, told_difference};
 use common::choice::Choice;
-use common::frames::{accepted, damage, support};
+use common::frames::{accepted, damage, name, support};
+use common::settings::texts;
 use original::mdr::payload::{
     AmbientRange, Cell, Charging, Message, NoiseMode, PairedDevice, Reading, Table, decode_battery, decode_equalizer,
     decode_general_setting_param, decode_noise, decode_noise_capability, decode_paired_devices, decode_support_functions,
@@ -22,11 +23,12 @@ pub enum Call {
     SupportCheck,
     SupportFunctions,
     GeneralSetting,
+    GeneralSettingInfo,
     IsText,
 }
 
 /// Those that read any payload.
-const READINGS: [Call; 11] = [
+const READINGS: [Call; 12] = [
     Call::Message,
     Call::Battery,
     Call::Noise,
@@ -38,6 +40,7 @@ const READINGS: [Call; 11] = [
     Call::SupportCheck,
     Call::SupportFunctions,
     Call::GeneralSetting,
+    Call::GeneralSettingInfo,
 ];
 
 #[derive(Clone, Debug)]
@@ -236,6 +239,10 @@ impl Case for Payload {
                 self.reading(tally, "support_check", |m| decode_support_functions(Table::One, m), ours::support_check)
             }
             Call::GeneralSetting => self.reading(tally, "general_setting", decode_general_setting_param, ours::general_setting),
+            Call::GeneralSettingInfo => {
+                let expected = texts(&self.bytes).map_or_else(Told::refused, |texts| Told::accepted(&texts.map(|n| n as u64)));
+                self.compare(tally, "general_setting_info", expected, ours::general_setting_info)
+            }
             Call::SupportFunctions => self.support_functions(tally),
             Call::IsText => {
                 let (expected, got) = (std::str::from_utf8(&self.bytes).is_ok(), ours::is_text(&self.bytes));
@@ -283,7 +290,8 @@ fn call_of(entry: u8) -> Call {
         4 => Call::Equalizer,
         5 => Call::PairedDevices,
         6 => Call::SupportCheck,
-        _ => Call::GeneralSetting,
+        7 => Call::GeneralSetting,
+        _ => Call::GeneralSettingInfo,
     }
 }
 
@@ -310,7 +318,7 @@ pub fn exhaustive(run: &mut Run) {
         }
     }
     // Every byte at every place of what the decoders accept.
-    for entry in 1..=7 {
+    for entry in 1..=8 {
         for _ in 0..6 {
             let bytes = accepted(&mut c, entry, 0);
             for at in 0..bytes.len().min(60) {
@@ -341,6 +349,22 @@ pub fn exhaustive(run: &mut Run) {
             }
         }
     }
+    // A setting's texts of every length, some of them with a byte more and cut at every byte.
+    for n in 0..=255 {
+        for m in 0..=255 {
+            run.case(&Payload::of(Call::GeneralSettingInfo, setting_texts(&vec![b'n'; n], &vec![b's'; m])));
+        }
+        let bytes = [setting_texts(&vec![b'n'; n], &vec![b's'; 255 - n]), vec![0]].concat();
+        for len in 0..=bytes.len() {
+            run.case(&Payload::of(Call::GeneralSettingInfo, bytes[..len].to_vec()));
+        }
+    }
+    // Short ones, among them those that the original reads since it counts a repaired text.
+    for n in 0..=6 {
+        for rest in strings(&[0, 1, 2, 3, b'A', 0xFF], n) {
+            run.case(&Payload::of(Call::GeneralSettingInfo, [&[0xD1, 0xD1, 0x00, 0x00], &rest[..]].concat()));
+        }
+    }
     // Text round its edges.
     let edges = [0x00, 0x7F, 0x80, 0x8F, 0x90, 0x9F, 0xA0, 0xBF, 0xC0, 0xC2, 0xE0, 0xFF];
     for first in [0x00, 0x80, 0xC1, 0xC2, 0xDF, 0xE0, 0xE1, 0xEC, 0xED, 0xEE, 0xEF, 0xF0, 0xF1, 0xF3, 0xF4, 0xF5, 0xFF] {
@@ -349,12 +373,27 @@ pub fn exhaustive(run: &mut Run) {
                 run.case(&Payload::of(Call::IsText, [&[first, second], &rest[..]].concat()));
             }
         }
+        for second in edges {
+            for rest in [strings(&edges, 0), strings(&edges, 1), strings(&edges, 2)].concat() {
+                in_settings(run, &[&[first, second], &rest[..]].concat());
+            }
+        }
     }
+    for letter in (0..=0x10_FFFF).step_by(0x40).filter_map(char::from_u32) {
+        in_settings(run, letter.to_string().as_bytes());
+    }
+}
+
+/// These bytes as a setting's name, and as its summary; and in a payload that has another form, which is found first.
+fn in_settings(run: &mut Run, text: &[u8]) {
+    run.case(&Payload::of(Call::GeneralSettingInfo, setting_texts(text, b"Al")));
+    run.case(&Payload::of(Call::GeneralSettingInfo, setting_texts("é".as_bytes(), text)));
+    run.case(&Payload::of(Call::GeneralSettingInfo, [setting_texts(text, text), vec![0]].concat()));
 }
 
 /// A payload of each decoder, whole, with a byte more or less, or damaged; and any bytes.
 pub fn random(run: &mut Run, c: &mut Choice) {
-    let entry = c.between(1, 7) as u8;
+    let entry = c.between(1, 8) as u8;
     let mut bytes = if c.one_in(12) { any(c) } else { accepted(c, entry, 0) };
     // No decoder looks at the command.
     if let Some(command) = bytes.first_mut() {
@@ -376,6 +415,7 @@ pub fn random(run: &mut Run, c: &mut Choice) {
             run.case(&Payload { call: Call::MaskPaired, ..case });
         }
         6 => run.case(&Payload { call: Call::SupportFunctions, ..case }),
+        8 => run.case(&Payload { call: Call::GeneralSettingInfo, bytes: setting_texts(&name(c), &name(c)), ..case }),
         _ => {}
     }
 }
@@ -396,6 +436,9 @@ pub fn random_text(run: &mut Run, c: &mut Choice) {
     }
     if c.one_in(10) {
         bytes = any(c);
+    }
+    if bytes.len() <= 255 {
+        in_settings(run, &bytes);
     }
     run.case(&Payload::of(Call::IsText, bytes));
 }

@@ -1,6 +1,6 @@
 //! Sessions of a scanner beside the Rust's `Scanner`, and their line calls beside the log over its `unpack` and decoders.
 use crate::case::{Case, Run, Tally, fewer, fewer_in_frame, hex};
-use crate::inputs::{any, content, room, strings, values};
+use crate::inputs::{any, content, room, setting_texts, strings, values};
 use crate::lent::{Left, Lent, MOST_VALUES, Told, Values, left_difference, told_difference};
 use crate::ranges::is_plan;
 use common::choice::Choice;
@@ -516,6 +516,7 @@ fn part(c: &mut Choice) -> Vec<u8> {
             let (data_type, command, entry) = c.of(&HOUSE);
             framed(data_type, c.byte(), &accepted(c, entry, command))
         }
+        5 if c.one_in(4) => framed(0x0C, c.byte(), &setting_texts(&name(c), &name(c))),
         5 => {
             let names: Vec<Vec<u8>> = (0..c.below(4)).map(|_| name(c)).collect();
             framed(0x0E, c.byte(), &paired(c, 0x37, &names))
@@ -560,7 +561,7 @@ fn fault(c: &mut Choice) -> Fault {
     match c.below(30) {
         0 => Fault::Short,
         1 => Fault::Long,
-        2 => Fault::Entry { at: c.below(512), entry: c.between(8, 255) as u8 },
+        2 => Fault::Entry { at: c.below(512), entry: c.between(9, 255) as u8 },
         _ => Fault::None,
     }
 }
@@ -618,6 +619,6 @@ pub fn random(run: &mut Run, c: &mut Choice) {
     }
     ops.push(Op::LineAll);
     ops.push(Op::Take);
-    let plan = if c.one_in(3) { (0..512).map(|_| c.below(8) as u8).collect() } else { house_plan() };
+    let plan = if c.one_in(3) { (0..512).map(|_| c.below(9) as u8).collect() } else { house_plan() };
     run.case(&Session { limit, store, plan, values: values(c), ops });
 }

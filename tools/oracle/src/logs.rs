@@ -1,7 +1,9 @@
 //! A session for `log`: a stream of frames of every kind, and the log of its spans, found by the Rust's `Scanner`.
+use crate::payloads::{LETTERS, NAMES, REPAIRED, ROWS, captured, info};
 use crate::text::{Choice, rule};
 use common::frames::{END, HOUSE, SENTRY, START, escaped, framed, house_plan};
 use common::log::{Log, reading};
+use common::settings::texts;
 use original::mdr::frame::{checksum, escape_into};
 use original::mdr::frame_8192::{MAX_BUFFER, Scanner};
 
@@ -40,6 +42,7 @@ fn stream() -> Vec<u8> {
     commands(&mut s);
     planned(&mut s);
     paired(&mut s);
+    setting_texts(&mut s);
     longest(&mut s);
     short_spans(&mut s);
     false_frames(&mut s);
@@ -148,6 +151,16 @@ fn accepted(c: &mut Choice, data_type: u8, command: u8) -> Vec<Vec<u8>> {
             }
         }
         (0x0C, 0x67 | 0x69) => all = with_kinds(&[(0x15, 7), (0x17, 7), (0x19, 9), (0x22, 6), (0x13, 7), (0x01, 5)], c),
+        (0x0C, 0xD1) => {
+            // None, of every form, of special bytes and a long one, in both places.
+            let long = [b't'; 255];
+            let texts = [&[], ROWS.as_bytes(), &[END, SENTRY, START], &long];
+            for name in texts {
+                for summary in texts {
+                    all.push(info(c.of(&[0xD1, 0xD2, END, SENTRY, START]), c.of(&[0, 1]), name, summary));
+                }
+            }
+        }
         (0x0C, 0xD7 | 0xD9) => {
             for slot in [0, 1, END, SENTRY, START, 0xD2, 0xFF] {
                 all.push(vec![command, slot, 0, slot % 2]);
@@ -232,6 +245,52 @@ fn paired(s: &mut Stream) {
         let names = [vec![b'x'; n], vec![], rule(2 * n as u64, n), rule(1, n)];
         let p = devices(&mut s.c, 0x37, &names);
         s.frame(0x0E, &p);
+    }
+}
+
+/// What settings are called: text of every form and what is none, in both places, of up to 255 bytes, cut, under every type, and with
+/// markers that are not escaped.
+fn setting_texts(s: &mut Stream) {
+    let mut payloads: Vec<Vec<u8>> = REPAIRED.map(<[u8]>::to_vec).into();
+    for name in NAMES {
+        payloads.extend(NAMES.map(|summary| info(0xD1, s.c.of(&[0, 1]), name, summary)));
+    }
+    for letter in LETTERS {
+        let text = letter.repeat(255 / letter.len()).into_bytes();
+        payloads.push(info(0xD1, 0, &text, &text));
+    }
+    for n in [1, 60, 61, 62, 128, 254, 255] {
+        payloads.push(info(0xD2, 0, &rule(1, n), b"s"));
+        payloads.push(info(0xD2, 1, b"n", &rule(3, n)));
+        payloads.push(info(0xD3, 0, &rule(5, n), &rule(7, 256 - n)));
+        // Text but for its last byte.
+        payloads.push(info(0xD3, 1, b"n", &[&rule(9, n - 1)[..], &[0xC2]].concat()));
+    }
+    for p in captured() {
+        payloads.extend((1..=p.len()).map(|n| p[..n].to_vec()));
+        payloads.push([&p[..], &[0]].concat());
+    }
+    let plan = house_plan();
+    for p in &payloads {
+        assert_eq!(reading(&plan, 0x0C, p).is_some(), texts(p).is_ok());
+        s.frame(0x0C, p);
+    }
+    let marks = info(0xD1, 0, &[START, b'a', SENTRY, b'b', END], &[END, END, SENTRY, SENTRY, START, START]);
+    for data_type in 0..=255 {
+        s.frame(data_type, &marks);
+        s.noise();
+    }
+    for raw in [END, SENTRY, START] {
+        let mut inside = vec![];
+        for &b in &body(0x0C, 1, marks.len() as u32, &marks, 0) {
+            if b == raw {
+                inside.push(b);
+            } else {
+                escape_into(&[b], &mut inside);
+            }
+        }
+        s.add(between_markers(&inside));
+        s.noise();
     }
 }
 

@@ -1,8 +1,9 @@
-//! Cases for `payload`: the Rust's `Message::split`, seven decoders, `AmbientRange` and `EqShape`, and its `from_utf8`.
+//! Cases for `payload`: the Rust's `Message::split`, eight decoders, `AmbientRange` and `EqShape`, and its `from_utf8`.
 use crate::text::{Choice, List, field, lent, rule, shown, sum};
 use original::mdr::payload::{
-    AmbientRange, Cell, Charging, EqShape, Message, NoiseMode, Reading, Table, decode_battery, decode_equalizer,
-    decode_general_setting_param, decode_noise, decode_noise_capability, decode_paired_devices, decode_support_functions,
+    AmbientRange, Cell, Charging, EqShape, GeneralSetting, Message, NoiseMode, Reading, Table, decode_battery, decode_equalizer,
+    decode_general_setting_info, decode_general_setting_param, decode_noise, decode_noise_capability, decode_paired_devices,
+    decode_support_functions,
 };
 
 pub fn list() -> List {
@@ -16,6 +17,7 @@ pub fn list() -> List {
     paired(&mut s);
     supports(&mut s);
     settings(&mut s);
+    setting_texts(&mut s);
     texts(&mut s);
     ranges(&mut s);
     s.list
@@ -76,6 +78,7 @@ fn reading(letter: char, table: Table, payload: &[u8], m: usize) -> String {
             Some(Reading::GeneralSettingParam { slot, enabled }) => word(slot) + &flag(enabled),
             _ => "refused 19 ".into(),
         },
+        'i' => setting_info(payload),
         'y' => flag(std::str::from_utf8(payload).is_ok()),
         _ => unreachable!("no such reading"),
     }
@@ -182,6 +185,14 @@ fn support(table: Table, payload: &[u8], m: usize) -> String {
     format!("{name} {count} {}{count} ", shown(&records))
 }
 
+/// OURS: both texts are offsets in the payload, and refusal 23 where one is none.
+fn setting_info(payload: &[u8]) -> String {
+    match common::settings::texts(payload) {
+        Ok(texts) => texts.map(word).concat(),
+        Err(n) => format!("refused {n} "),
+    }
+}
+
 /// OURS: refusal 22 where the Rust panics.
 fn admits(r: AmbientRange, level: i32) -> u8 {
     if r.step == 0 && (i32::from(r.min)..=i32::from(r.max)).contains(&level) {
@@ -228,6 +239,13 @@ impl Session {
         self.list.add(format!("v {n} {at} {letter}"), total.to_string());
     }
 
+    /// Every length below `n`.
+    fn lengths(&mut self, letter: char, n: usize) {
+        let answers = |t, len| sum(t, reading(letter, Table::One, &self.kept[..len], 512).as_bytes());
+        let total = (0..n).fold(0, answers);
+        self.list.add(format!("l {n} {letter}"), total.to_string());
+    }
+
     /// A payload of its own length, one byte less and one more.
     fn edges(&mut self, letter: char, bytes: &[u8]) {
         self.keep(bytes);
@@ -255,7 +273,7 @@ fn layouts(s: &mut Session) {
     }
     for p in payloads {
         s.keep(&p);
-        for letter in "mbncepfg".chars() {
+        for letter in "mbncepfgi".chars() {
             for n in 0..=20 {
                 s.values(letter, n, 1);
             }
@@ -366,7 +384,7 @@ fn equalizers(s: &mut Session) {
 }
 
 /// Names: text of every form, and what is not.
-const NAMES: [&[u8]; 16] = [
+pub const NAMES: [&[u8]; 16] = [
     b"",
     b"A",
     b"Al",
@@ -465,6 +483,144 @@ fn settings(s: &mut Session) {
     }
 }
 
+/// What the setting in a slot is called.
+pub fn info(slot: u8, format: u8, name: &[u8], summary: &[u8]) -> Vec<u8> {
+    [&[0xD1, slot, 0x00, format, name.len() as u8], name, &[summary.len() as u8], summary].concat()
+}
+
+/// What was captured.
+pub fn captured() -> [Vec<u8>; 2] {
+    [
+        info(0xD1, 1, b"SIDETONE_SETTING", b"SIDETONE_SETTING_SUMMARY"),
+        info(0xD2, 1, b"MULTIPOINT_SETTING", b"MULTIPOINT_SETTING_SUMMARY_LDAC_AVAILABLE"),
+    ]
+}
+
+/// Where ours differs: the Rust counts the strings that it has repaired, so it refuses the first and reads the others.
+pub const REPAIRED: [&[u8]; 3] = [
+    &[0xD1, 0xD1, 0, 0, 1, 0xFF, 0],
+    &[0xD1, 0xD1, 0, 0, 0, 3, 0xF0, 0x90, 0x80],
+    &[0xD1, 0xD1, 0, 0, 0, 1, 0xFF, 0, 0],
+];
+
+/// The first and the last letter of each row of RFC 3629's table.
+pub const ROWS: &str = "\0\u{7F}\u{80}\u{7FF}\u{800}\u{FFF}\u{1000}\u{CFFF}\u{D000}\u{D7FF}\u{E000}\u{FFFF}\
+                        \u{10000}\u{3FFFF}\u{40000}\u{FFFFF}\u{100000}\u{10FFFF}";
+
+/// A letter of each length.
+pub const LETTERS: [&str; 4] = ["t", "\u{E9}", "\u{30D8}", "\u{1F3A7}"];
+
+fn setting_texts(s: &mut Session) {
+    let [sidetone, multipoint] = captured();
+    for p in [sidetone, multipoint, info(0xD3, 0, ROWS.as_bytes(), ROWS.as_bytes())] {
+        s.edges('i', &p);
+        s.lengths('i', p.len() + 3);
+    }
+    let read = Reading::GeneralSettingInfo(GeneralSetting { slot: 0xD1, name: "".into(), summary: "\u{FFFD}".into() });
+    for (p, theirs, ours) in [(REPAIRED[0], None, 23), (REPAIRED[1], Some(&read), 23), (REPAIRED[2], Some(&read), 19)] {
+        assert_eq!(decoded(p, decode_general_setting_info).as_ref(), theirs);
+        assert_eq!(common::settings::texts(p), Err(ours));
+        s.edges('i', p);
+    }
+    for name in NAMES {
+        for summary in NAMES {
+            s.edges('i', &info(0xD1, 0, name, summary));
+        }
+    }
+    for (name, summary) in [("", ""), ("A", ""), ("", "A"), ("Al", "\u{E9}"), ("\u{20AC}", "\u{1F3A7}!")] {
+        s.sweep('i', &info(0xD1, 1, name.as_bytes(), summary.as_bytes()));
+    }
+    for letter in LETTERS {
+        // A text of another length has some letters of one byte at its front.
+        for more in 0..letter.len() {
+            summaries(s, &b"abc"[..more], letter.as_bytes());
+            names(s, &b"abc"[..more], letter.as_bytes());
+        }
+    }
+    text_edges(s);
+    damaged_texts(s);
+}
+
+/// Summaries of this front and up to as many letters as fit, behind a short and a long name, cut at every byte and with bytes behind.
+fn summaries(s: &mut Session, front: &[u8], letter: &[u8]) {
+    let summary = [front, &letter.repeat((255 - front.len()) / letter.len())].concat();
+    for name in [&b"Al"[..], &[b'n'; 255]] {
+        s.keep(&info(0xD1, 0, name, &summary));
+        for n in (front.len()..=summary.len()).step_by(letter.len()) {
+            s.change(5 + name.len(), n as u8);
+            s.lengths('i', 6 + name.len() + n + 3);
+        }
+    }
+}
+
+/// The same for names, before a short and a long summary.
+fn names(s: &mut Session, front: &[u8], letter: &[u8]) {
+    s.keep(&[&[0xD1, 0xD2, 0x00, 0x01, 0x00], front, &[b's'; 520]].concat());
+    for n in (front.len()..=255).step_by(letter.len()) {
+        s.change(4, n as u8);
+        if n > front.len() {
+            for (i, &b) in letter.iter().enumerate() {
+                s.change(5 + n - letter.len() + i, b);
+            }
+        }
+        for len in [2, 255] {
+            s.change(5 + n, len as u8);
+            s.lengths('i', 6 + n + len + 3);
+        }
+    }
+}
+
+/// Bytes round the edges of the ranges: of a first byte, and of a later one.
+const FIRSTS: [u8; 20] = [
+    0x00, 0x7F, 0x80, 0xBF, 0xC0, 0xC1, 0xC2, 0xDF, 0xE0, 0xE1, 0xEC, 0xED, 0xEE, 0xEF, 0xF0, 0xF1, 0xF3, 0xF4, 0xF5, 0xFF,
+];
+const EDGES: [u8; 10] = [0x00, 0x7F, 0x80, 0x8F, 0x90, 0x9F, 0xA0, 0xBF, 0xC0, 0xFF];
+
+/// All of one and two bytes, and of three and four round the edges with every last byte, as name and as summary.
+fn text_edges(s: &mut Session) {
+    let every: Vec<u8> = (0..=255).collect();
+    let other = LETTERS[1].as_bytes();
+    for n in 1..=4 {
+        let sets: [&[u8]; 3] = match n {
+            1 => [&[0], &[0], &[0]],
+            2 => [&every, &[0], &[0]],
+            3 => [&FIRSTS, &EDGES, &[0]],
+            _ => [&FIRSTS[12..], &EDGES, &[0x7F, 0x80, 0xBF, 0xC0]],
+        };
+        for (at, p) in [(5, info(0xD1, 0, &[0; 4][..n], other)), (8, info(0xD1, 0, other, &[0; 4][..n]))] {
+            s.keep(&p);
+            for &a in sets[0] {
+                for &b in sets[1] {
+                    for &d in sets[2] {
+                        for (i, &byte) in [a, b, d][..n - 1].iter().enumerate() {
+                            if s.kept[at + i] != byte {
+                                s.change(at + i, byte);
+                            }
+                        }
+                        s.values('i', p.len(), at + n - 1);
+                    }
+                }
+            }
+        }
+    }
+}
+
+fn damaged_texts(s: &mut Session) {
+    let mut c = common::choice::Choice::new(24);
+    for _ in 0..200 {
+        let mut p = common::frames::setting_info(&mut c, 0xD1);
+        if p.len() > 120 {
+            continue;
+        }
+        for _ in 0..c.below(3) {
+            common::frames::damage(&mut c, &mut p);
+        }
+        s.keep(&p);
+        s.read('i', p.len());
+        s.lengths('i', p.len() + 3);
+    }
+}
+
 fn texts(s: &mut Session) {
     // Strings cut at every byte.
     let mut c = Choice::new(22);
@@ -477,7 +633,6 @@ fn texts(s: &mut Session) {
         }
     }
     // All of one to three bytes, and of four round the edges.
-    const EDGES: [u8; 10] = [0x00, 0x7F, 0x80, 0x8F, 0x90, 0x9F, 0xA0, 0xBF, 0xC0, 0xFF];
     let every: Vec<u8> = (0..=255).collect();
     for n in 1..=4 {
         for first in 0..=255 {

@@ -1,7 +1,7 @@
 use mathlib.Core.Path.{ap, sym, _∙_}
 use borrow.Author.Needs.{needs}
 use Rattle.telling.proofs.LawsTold.{taken, turned}
-use Rattle.ffi.specs.Numbers.{headerNumbers}
+use Rattle.numbers.specs.Numbers.{headerNumbers}
 use Rattle.framing.specs.Framing.{unpackedTold}
 use Rattle.ffi.proofs.frames.mdr_unpack.Statement.{statement}
 use Rattle.ffi.proofs.frames.mdr_unpack.Tie as tie

@@ -1,6 +1,6 @@
 use borrow.Author.Needs.{needs}
 use Rattle.telling.proofs.LawsTold.{passed}
-use Rattle.ffi.specs.Numbers.{lineNumbers}
+use Rattle.numbers.specs.Numbers.{lineNumbers}
 use Rattle.ffi.proofs.logging.lined.Statement.{statement}
 use Rattle.ffi.proofs.logging.lined.Tie as tie
 

@@ -11,7 +11,7 @@ use Rattle.ffi.proofs.Walk.{hears, says-all, also, last, mv, sv, status
 use Rattle.scanner.specs.declared.scanner.Scanner.{Scanner}
 use Rattle.ffi.specs.declared.scans.Stated.{Stated}
 use Rattle.line_call.specs.LineCall.{LineEffect, lineCall}
-use Rattle.ffi.specs.Numbers.{lineNumbers}
+use Rattle.numbers.specs.Numbers.{lineNumbers}
 use Rattle.telling.specs.Told.{statusOf, numbersOf, told}
 use Rattle.scanner.proofs.scanner.Scanner as T
 use Rattle.scanner.proofs.scanner.Scanner.Laws as T′

@@ -4,7 +4,7 @@ use mir.Syntax.{w32}
 use mir.Facts.{toZ-ofZ}
 use Rattle.range.specs.Range.{admitsOf}
 use Rattle.telling.proofs.LawsTold.{passed}
-use Rattle.ffi.specs.Numbers.{bitNumbers}
+use Rattle.numbers.specs.Numbers.{bitNumbers}
 use Rattle.ffi.proofs.readings.mdr_admits.Statement.{statement}
 use Rattle.ffi.proofs.readings.mdr_admits.Tie as tie
 

@@ -1,6 +1,6 @@
 use mathlib.Core.Path.{ap, sym, _∙_}
 use borrow.Author.Needs.{needs}
-use Rattle.ffi.specs.Numbers.{equalizerNumbers}
+use Rattle.numbers.specs.Numbers.{equalizerNumbers}
 use Rattle.telling.proofs.LawsTold.{taken, turned}
 use Rattle.equalizer.specs.Equalizer.{eqTold}
 use Rattle.ffi.proofs.readings.mdr_equalizer.Statement.{statement}

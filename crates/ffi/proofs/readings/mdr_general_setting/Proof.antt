@@ -1,6 +1,6 @@
 use mathlib.Core.Path.{ap, sym, _∙_}
 use borrow.Author.Needs.{needs}
-use Rattle.ffi.specs.Numbers.{settingNumbers}
+use Rattle.numbers.specs.Numbers.{settingNumbers}
 use Rattle.telling.proofs.LawsTold.{taken, turned}
 use Rattle.payload.specs.Setting.{settingTold}
 use Rattle.ffi.proofs.readings.mdr_general_setting.Statement.{statement}

@@ -1,6 +1,6 @@
 use mathlib.Core.Path.{ap, sym, _∙_}
 use borrow.Author.Needs.{needs}
-use Rattle.ffi.specs.Numbers.{messageNumbers}
+use Rattle.numbers.specs.Numbers.{messageNumbers}
 use Rattle.telling.proofs.LawsTold.{taken, turned}
 use Rattle.reading.specs.Message.{splitTold}
 use Rattle.ffi.proofs.readings.mdr_message.Statement.{statement}

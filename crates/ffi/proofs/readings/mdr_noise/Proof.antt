@@ -3,7 +3,7 @@ use mathlib.Core.Path.{ap, sym, _∙_}
 use mathlib.Core.List.{List}
 use borrow.Author.Needs.{needs}
 use Rattle.telling.specs.Told.{told}
-use Rattle.ffi.specs.Numbers.{noiseNumbers}
+use Rattle.numbers.specs.Numbers.{noiseNumbers}
 use Rattle.telling.proofs.LawsTold.{taken, turned}
 use Rattle.noise.specs.Noise.{noiseTold}
 use Rattle.ffi.proofs.readings.mdr_noise.Statement.{statement}

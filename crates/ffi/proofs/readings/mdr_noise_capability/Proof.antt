@@ -3,9 +3,9 @@ use mathlib.Core.Path.{ap, _∙_}
 use mathlib.Core.List.{List}
 use borrow.Author.Needs.{needs}
 use Rattle.telling.specs.Told.{told}
-use Rattle.ffi.specs.Numbers.{capabilityNumbers}
+use Rattle.numbers.specs.Numbers.{capabilityNumbers}
 use Rattle.telling.proofs.LawsTold.{taken, turned}
-use Rattle.ffi.proofs.LawsNumbers.{read, not-read, report-told}
+use Rattle.numbers.proofs.LawsNumbers.{read, not-read, report-told}
 use Rattle.ffi.proofs.readings.mdr_noise_capability.Statement.{statement}
 use Rattle.ffi.proofs.readings.mdr_noise_capability.Tie as tie
 

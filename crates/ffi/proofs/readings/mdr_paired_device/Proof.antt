@@ -3,7 +3,7 @@ use mathlib.Core.Path.{ap, sym, _∙_}
 use mathlib.Core.List.{List}
 use borrow.Author.Needs.{needs}
 use Rattle.telling.specs.Told.{told}
-use Rattle.ffi.specs.Numbers.{deviceNumbers}
+use Rattle.numbers.specs.Numbers.{deviceNumbers}
 use Rattle.telling.proofs.LawsTold.{taken, turned}
 use Rattle.paired.specs.Paired.{lookupTold}
 use Rattle.ffi.proofs.readings.mdr_paired_device.Statement.{statement}

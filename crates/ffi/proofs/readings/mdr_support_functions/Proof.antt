@@ -43,7 +43,7 @@ use Rattle.support.specs.declared.support.SupportFunction.{SupportFunction}
 use Rattle.support.specs.declared.support.SupportAnswer.{SupportAnswer}
 use Rattle.support.specs.Support.{supportTold, supportCall}
 use Rattle.telling.specs.Told.{statusOf, numbersOf, told}
-use Rattle.ffi.specs.Numbers.{listNumbers, tableOf}
+use Rattle.numbers.specs.Numbers.{listNumbers, tableOf}
 use Rattle.support.proofs.support.SupportFunction as T
 use Rattle.support.proofs.support.SupportAnswer as S
 use Rattle.support.proofs.support.SupportAnswer.Laws as S′

@@ -1,5 +1,5 @@
 use borrow.Author.Tests.{eq-eqb, ne-eqb}
-use Rattle.ffi.specs.Numbers.{tableOf}
+use Rattle.numbers.specs.Numbers.{tableOf}
 use Rattle.ffi.proofs.readings.table_of.Statement.{statement}
 use Rattle.ffi.proofs.readings.table_of.Tie as tie
 

@@ -1,6 +1,6 @@
 use borrow.Author.Needs.{needs}
 use Rattle.telling.proofs.LawsTold.{passed}
-use Rattle.ffi.specs.Numbers.{spotNumbers}
+use Rattle.numbers.specs.Numbers.{spotNumbers}
 use Rattle.ffi.proofs.scans.found.Statement.{statement}
 use Rattle.ffi.proofs.scans.found.Tie as tie
 

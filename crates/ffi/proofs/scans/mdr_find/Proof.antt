@@ -16,7 +16,7 @@ use Rattle.ffi.proofs.Walk.{hears, says-all, also, last, mv}
 use Rattle.scanner.specs.declared.scanner.Scanner.{Scanner}
 use Rattle.scanner.specs.Finding.{findCall}
 use Rattle.telling.specs.Told.{statusOf, numbersOf, told}
-use Rattle.ffi.specs.Numbers.{spotNumbers}
+use Rattle.numbers.specs.Numbers.{spotNumbers}
 use Rattle.scanner.proofs.scanner.Scanner as T
 use Rattle.scanner.proofs.scanner.Scanner.Laws as T′
 use Rattle.ffi.proofs.scans.found as core

@@ -19,7 +19,7 @@ use Rattle.scanner.specs.declared.scanner.Scanner.{Scanner}
 use Rattle.scanner.specs.declared.taking.TakeAnswer.{TakeAnswer}
 use Rattle.scanner.specs.Taking.{takeCall, takeTold}
 use Rattle.telling.specs.Told.{statusOf, numbersOf, told}
-use Rattle.ffi.specs.Numbers.{bitNumbers}
+use Rattle.numbers.specs.Numbers.{bitNumbers}
 use Rattle.scanner.proofs.scanner.Scanner as T
 use Rattle.scanner.proofs.taking.TakeAnswer as P
 use Rattle.scanner.proofs.taking.TakeAnswer.Laws as P′

@@ -26,4 +26,5 @@ house-plan-spec =
     (λ c. search needs)
     (λ c. search needs)
     (λ c. search needs)
+    (λ c. search needs)
     (λ c. refl))

@@ -1,0 +1,2 @@
+pub mod LawsSettingInfo
+pub mod CasesSettingInfo
