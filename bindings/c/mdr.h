@@ -40,12 +40,13 @@ enum mdr_refusal {
     MDR_BAD_CHECKSUM = 15,     /* [declared, computed] */
     MDR_LENGTH_MISMATCH = 16,  /* [declared, actual] */
     MDR_PAYLOAD_TOO_LONG = 17, /* above 4294967295 bytes */
-    MDR_OUTPUT_TOO_SHORT = 18, /* escape, pack, ack */
+    MDR_OUTPUT_TOO_SHORT = 18, /* escape, pack, ack, read_line */
     MDR_OTHER_MESSAGE = 19,    /* not this decoder's message */
     MDR_TOO_FEW_RECORDS = 20,
     MDR_NO_SUCH_DEVICE = 21,
     MDR_STEP_ZERO = 22,
-    MDR_NOT_TEXT = 23 /* a setting's name or summary is not UTF-8 */
+    MDR_NOT_TEXT = 23,  /* a setting's name or summary is not UTF-8 */
+    MDR_NOT_A_LINE = 24 /* none of the four forms of a log's line */
 };
 
 /* ---- frames ---- */
@@ -73,6 +74,10 @@ uint8_t mdr_ack(uint8_t seq, uint8_t *out, size_t out_len, uint64_t *values, siz
 /* [type byte, sequence, payload length]. Reads one whole frame, START and END included. The body comes to stand at the front of `work`,
  * its payload from offset 6 on, and the rest of `work` is zero. Refused by 8 to 11 `work` stays, by 12 to 16 all of it is zero. */
 uint8_t mdr_unpack(const uint8_t *frame, size_t frame_len, uint8_t *work, size_t work_len, uint64_t *values, size_t values_len);
+
+/* [type byte, sequence, payload length]: what mdr_unpack tells of the frame in a work area that is long enough, without one. Refused by 8
+ * to 10 and 12 to 16. */
+uint8_t mdr_read_header(const uint8_t *frame, size_t frame_len, uint64_t *values, size_t values_len);
 
 /* ---- the scanner ----
  *
@@ -205,6 +210,16 @@ uint8_t mdr_line(struct mdr_scanner *scanner, uint8_t *store, size_t store_len, 
  * With the sizes that never refuse mdr_line the first line has room, so a call refused by 7 has written at least one. */
 uint8_t mdr_all_lines(struct mdr_scanner *scanner, uint8_t *store, size_t store_len, const uint8_t *plan, size_t plan_len, uint8_t *work,
                       size_t work_len, uint8_t *out, size_t out_len, uint64_t *values, size_t values_len);
+
+/* Reads one line of a log, its newline included. [letter, type byte, sequence, payload length, command or 256], the letter being the
+ * line's first byte. Of an 'R' line [letter, number of the refusal, 0, 0, 256]. The command is told of an 'H' line alone; of an 'S' or 'F'
+ * line the payload comes to stand at the front of `out`, and the bytes behind stay. Of 'R' and 'H' all of `out` stays.
+ *
+ * Refused by 24 unless the line is a letter, a space, digits in capitals and a newline, and no more, and the digits are: for 'R' 08 or 12
+ * to 16; for 'H' type, sequence, a length of four bytes, and a command exactly where the length is not 0; for 'S' and 'F' a frame that
+ * mdr_unpack accepts and that mdr_pack makes again. No plan is asked. Then by 18 where the payload does not fit `out`: half of the line's
+ * length is enough. Refused, `out` stays. */
+uint8_t mdr_read_line(const uint8_t *line, size_t line_len, uint8_t *out, size_t out_len, uint64_t *values, size_t values_len);
 
 #ifdef __cplusplus
 }

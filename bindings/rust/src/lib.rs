@@ -31,6 +31,7 @@ pub enum Refusal {
     NoSuchDevice,
     StepZero,
     NotText,
+    NotALine,
     /// a status of a later library, which this crate has no name for
     Unlisted(u8),
 }
@@ -63,6 +64,7 @@ impl Refusal {
             21 => Refusal::NoSuchDevice,
             22 => Refusal::StepZero,
             23 => Refusal::NotText,
+            24 => Refusal::NotALine,
             other => Refusal::Unlisted(other),
         }
     }
@@ -93,6 +95,7 @@ impl Refusal {
             Refusal::NoSuchDevice => 21,
             Refusal::StepZero => 22,
             Refusal::NotText => 23,
+            Refusal::NotALine => 24,
             Refusal::Unlisted(number) => number,
         }
     }
@@ -128,6 +131,7 @@ impl std::fmt::Display for Refusal {
             Refusal::NoSuchDevice => write!(f, "the index is not below the count of devices"),
             Refusal::StepZero => write!(f, "the level lies within a range whose step is 0"),
             Refusal::NotText => write!(f, "the name or the summary of the setting is not UTF-8"),
+            Refusal::NotALine => write!(f, "the bytes are not one line of a log, its newline included"),
             Refusal::Unlisted(number) => write!(f, "refused by {number}, for which there is no name here"),
         }
     }
@@ -281,6 +285,20 @@ pub fn unpack<'a>(frame: &[u8], work: &'a mut [u8]) -> Result<Unpacked<'a>, Refu
     Ok(Unpacked { data_type: DataType::from_wire(v[0] as u8), seq: v[1] as u8, payload: &work[6..6 + v[2] as usize] })
 }
 
+/// A frame's header, and the length of its payload.
+#[derive(Clone, Copy, Debug, PartialEq, Eq)]
+pub struct Header {
+    pub data_type: DataType,
+    pub seq: u8,
+    pub len: usize,
+}
+
+/// Reads one whole frame as `unpack` does, without a work area.
+pub fn read_header(frame: &[u8]) -> Result<Header, Refusal> {
+    let v: [u64; 3] = told(|v, n| unsafe { sys::mdr_read_header(frame.as_ptr(), frame.len(), v, n) })?;
+    Ok(Header { data_type: DataType::from_wire(v[0] as u8), seq: v[1] as u8, len: v[2] as usize })
+}
+
 /// A span of the held bytes, markers included.
 #[derive(Clone, Copy, Debug, PartialEq, Eq)]
 pub struct Span {
@@ -378,6 +396,32 @@ pub fn house_plan() -> [u8; PLAN_LEN] {
 
 pub fn plan_fine(plan: &[u8]) -> bool {
     unsafe { sys::mdr_plan_fine(plan.as_ptr(), plan.len()) }
+}
+
+/// A line of a log, by its letter.
+#[derive(Clone, Copy, Debug, PartialEq, Eq)]
+pub enum LineRead<'a> {
+    /// `R`: the number of the refusal
+    Unread(u8),
+    /// `H`: a command where the length is not 0
+    Header { header: Header, command: Option<u8> },
+    /// `S`
+    Masked(Unpacked<'a>),
+    /// `F`
+    Full(Unpacked<'a>),
+}
+
+/// Reads one line, its newline included. The payload of an `S` or `F` line is a part of `out`; half of the line's length is enough for it.
+pub fn read_line<'a>(line: &[u8], out: &'a mut [u8]) -> Result<LineRead<'a>, Refusal> {
+    let v: [u64; 5] = told(|v, n| unsafe { sys::mdr_read_line(line.as_ptr(), line.len(), out.as_mut_ptr(), out.len(), v, n) })?;
+    let header = Header { data_type: DataType::from_wire(v[1] as u8), seq: v[2] as u8, len: v[3] as usize };
+    let unpacked = |out: &'a [u8]| Unpacked { data_type: header.data_type, seq: header.seq, payload: &out[..header.len] };
+    Ok(match v[0] as u8 {
+        b'R' => LineRead::Unread(v[1] as u8),
+        b'H' => LineRead::Header { header, command: byte(v[4]) },
+        b'S' => LineRead::Masked(unpacked(out)),
+        _ => LineRead::Full(unpacked(out)),
+    })
 }
 
 #[derive(Clone, Copy, Debug, PartialEq, Eq)]

@@ -32,6 +32,7 @@ unsafe extern "C" {
     ) -> u8;
     pub fn mdr_ack(seq: u8, out: *mut u8, out_len: usize, values: *mut u64, values_len: usize) -> u8;
     pub fn mdr_unpack(frame: *const u8, frame_len: usize, work: *mut u8, work_len: usize, values: *mut u64, values_len: usize) -> u8;
+    pub fn mdr_read_header(frame: *const u8, frame_len: usize, values: *mut u64, values_len: usize) -> u8;
 
     pub fn mdr_open(scanner: *mut Scanner, limit: usize, store: *mut u8, store_len: usize) -> u8;
     pub fn mdr_push(scanner: *mut Scanner, store: *mut u8, store_len: usize, piece: *const u8, piece_len: usize) -> u8;
@@ -95,4 +96,5 @@ unsafe extern "C" {
         values: *mut u64,
         values_len: usize,
     ) -> u8;
+    pub fn mdr_read_line(line: *const u8, line_len: usize, out: *mut u8, out_len: usize, values: *mut u64, values_len: usize) -> u8;
 }

@@ -1,4 +1,4 @@
-//! Each wrapper once or more, on cases whose answers document 01 or the wire format gives.
+//! Each wrapper once or more, on cases whose answers documents 01 and 02 or the wire format give.
 
 use mdr::*;
 
@@ -44,6 +44,28 @@ fn frames() {
 }
 
 #[test]
+fn headers() {
+    let mut frame = [0; 32];
+    let len = pack(DataType::DataMdr, 1, &[0x23, 0x3E], &mut frame).unwrap();
+    assert_eq!(read_header(&frame[..len]), Ok(Header { data_type: DataType::DataMdr, seq: 1, len: 2 }));
+    // A raw marker inside is accepted, as by `unpack`.
+    let raw = [0x3E, 0x00, 0x3E, 0, 0, 0, 0, 0x3E, 0x3C];
+    assert_eq!(read_header(&raw), Ok(Header { data_type: DataType::Data, seq: 0x3E, len: 0 }));
+    for (frame, refusal) in [
+        (&raw[..8], Refusal::TooShort),
+        (&[0; 9], Refusal::NoStart),
+        (&[0x3E; 9], Refusal::NoEnd),
+        (&[0x3E, 0, 0, 0, 0, 0, 0, 0x3D, 0x3C], Refusal::TrailingSentry),
+        (&[0x3E, 0x3D, 0x41, 0, 0, 0, 0, 0, 0x3C], Refusal::BadEscapee(0x41)),
+        (&[0x3E, 0x3D, 0x2C, 0, 0, 0, 0, 0, 0x3C], Refusal::BodyTooShort),
+        (&[0x3E, 1, 1, 0, 0, 0, 1, 2, 0x3C], Refusal::BadChecksum { declared: 2, computed: 3 }),
+        (&[0x3E, 1, 1, 0, 0, 0, 1, 3, 0x3C], Refusal::LengthMismatch { declared: 1, actual: 0 }),
+    ] {
+        assert_eq!(read_header(frame), Err(refusal));
+    }
+}
+
+#[test]
 fn refusals() {
     let mut work = [0; 32];
     let refusal = unpack(&[0x3E, 1, 1, 0, 0, 0, 1, 2, 0x3C], &mut work).unwrap_err();
@@ -53,8 +75,10 @@ fn refusals() {
     assert_eq!(Refusal::NotText.number(), 23);
     assert_eq!(Refusal::NotText.to_string(), "the name or the summary of the setting is not UTF-8");
     assert_eq!(Refusal::BadPlan.to_string(), "the plan does not have 512 entries, or one is above 8");
-    assert_eq!(Refusal::Unlisted(24).number(), 24);
-    assert_eq!(Refusal::Unlisted(24).to_string(), "refused by 24, for which there is no name here");
+    assert_eq!(Refusal::NotALine.number(), 24);
+    assert_eq!(Refusal::NotALine.to_string(), "the bytes are not one line of a log, its newline included");
+    assert_eq!(Refusal::Unlisted(25).number(), 25);
+    assert_eq!(Refusal::Unlisted(25).to_string(), "refused by 25, for which there is no name here");
 }
 
 #[test]
@@ -118,6 +142,66 @@ fn lines() {
         assert_eq!(s.line(&mut store, &plan, &mut work, &mut out), Ok(Some(line.len())));
         assert_eq!(&out[..line.len()], line);
     }
+}
+
+#[test]
+fn lines_read_back() {
+    let mut out = [0xEE; 32];
+    for n in [8, 12, 13, 14, 15, 16] {
+        assert_eq!(read_line(format!("R {n:02}\n").as_bytes(), &mut out), Ok(LineRead::Unread(n)));
+    }
+    let ack = Header { data_type: DataType::Ack, seq: 1, len: 0 };
+    assert_eq!(read_line(b"H 010100000000\n", &mut out), Ok(LineRead::Header { header: ack, command: None }));
+    let withheld = Header { data_type: DataType::DataMdr, seq: 0, len: 0x102 };
+    assert_eq!(read_line(b"H 0C0000000102A5\n", &mut []), Ok(LineRead::Header { header: withheld, command: Some(0xA5) }));
+    assert_eq!(out, [0xEE; 32]);
+
+    let battery = Unpacked { data_type: DataType::DataMdr, seq: 0, payload: &[0x23, 0x00, 0x50, 0x01] };
+    assert_eq!(read_line(b"F 3E0C000000000423005001843C\n", &mut out), Ok(LineRead::Full(battery)));
+    assert_eq!(out[..5], [0x23, 0x00, 0x50, 0x01, 0xEE]);
+    let stars = b"\x37\x02\x01*****************\x01\x00\x00\x00\x02**\x00";
+    let devices = Unpacked { data_type: DataType::DataMdrNo2, seq: 1, payload: stars };
+    let line = b"S 3E0E010000001C3702012A2A2A2A2A2A2A2A2A2A2A2A2A2A2A2A2A01000000022A2A00863C\n";
+    assert_eq!(read_line(line, &mut out), Ok(LineRead::Masked(devices)));
+    assert_eq!((&out[..28], &out[28..]), (&stars[..], &[0xEE; 4][..]));
+    let escaped = Unpacked { data_type: DataType::Data, seq: 0x3E, payload: &[] };
+    assert_eq!(read_line(b"F 3E003D2E000000003D2E3C\n", &mut []), Ok(LineRead::Full(escaped)));
+}
+
+#[test]
+fn lines_not_read() {
+    let mut out = [0xEE; 32];
+    for other in [
+        &b""[..],
+        b"R 08",
+        b"R 08\n\n",
+        b"R 08\r\n",
+        b"R 09\n",
+        b"R 11\n",
+        b"R 17\n",
+        b"R 8\n",
+        b"r 08\n",
+        b"R08\n",
+        b"G 08\n",
+        // A command where the length is 0, and none where it is not.
+        b"H 01010000000023\n",
+        b"H 010100000001\n",
+        b"H 0C0000000102a5\n",
+        b"F 3E0c000000000423005001843C\n",
+        b"F 3E0C000000000423005001853C\n",
+        b"F 3E0C000000000423005001843\n",
+        // It unpacks, and packs otherwise.
+        b"F 3E003E000000003E3C\n",
+        b"S 3E3C\n",
+    ] {
+        assert_eq!(read_line(other, &mut out), Err(Refusal::NotALine), "{:?}", String::from_utf8_lossy(other));
+        assert_eq!(read_line(other, &mut []), Err(Refusal::NotALine));
+    }
+    for letter in ["F", "S"] {
+        let line = format!("{letter} 3E0C000000000423005001843C\n");
+        assert_eq!(read_line(line.as_bytes(), &mut out[..3]), Err(Refusal::OutputTooShort));
+    }
+    assert_eq!(out, [0xEE; 32]);
 }
 
 #[test]

@@ -26,6 +26,7 @@ pub enum Refusal {
     NoSuchDevice,
     StepZero,
     NotText,
+    NotALine,
 }
 
 impl Refusal {
@@ -63,6 +64,7 @@ impl Refusal {
             Refusal::NoSuchDevice => 21,
             Refusal::StepZero => 22,
             Refusal::NotText => 23,
+            Refusal::NotALine => 24,
         }
     }
 }

@@ -89,7 +89,7 @@ unfolding unescapeCall
 unescape-short src out h = rw (lt-ltb (length out) (length src) h)
 
 -- an escapee stands for the byte 16 above it
-escapee : (e : ℕ) (rest : Outcome (List ℕ)) → 0x2C ≤ e → e < 0x2F → escapeeThen e rest ≡ thenByte (e + 16) rest
+pub escapee : (e : ℕ) (rest : Outcome (List ℕ)) → 0x2C ≤ e → e < 0x2F → escapeeThen e rest ≡ thenByte (e + 16) rest
 unfolding escapeeThen
 escapee e rest h k =
     by-eqb (λ t. pick t (thenByte END rest) (pick (eqb e 0x2D) (thenByte SENTRY rest) (pick (eqb e 0x2E) (thenByte START rest) (refused 13 (e ∷ [])))) ≡ thenByte (e + 16) rest) e 0x2C
@@ -98,7 +98,7 @@ escapee e rest h k =
     (λ p. rw p)
     (λ n2. let p : e ≡ 0x2E = omega arith in rw p))
 
-bad-escapee : (e : ℕ) (rest : Outcome (List ℕ)) → (e < 0x2C) ⊎ (0x2F ≤ e) → escapeeThen e rest ≡ refused 13 (e ∷ [])
+pub bad-escapee : (e : ℕ) (rest : Outcome (List ℕ)) → (e < 0x2C) ⊎ (0x2F ≤ e) → escapeeThen e rest ≡ refused 13 (e ∷ [])
 unfolding escapeeThen
 bad-escapee e rest (inl h) = rw (ne-eqb e 0x2C (λ p. omega arith), ne-eqb e 0x2D (λ p. omega arith), ne-eqb e 0x2E (λ p. omega arith))
 bad-escapee e rest (inr h) = rw (ne-eqb e 0x2C (λ p. omega arith), ne-eqb e 0x2D (λ p. omega arith), ne-eqb e 0x2E (λ p. omega arith))

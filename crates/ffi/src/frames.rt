@@ -9,7 +9,8 @@ ghost use Rattle.base.specs.DataType.{fromWire};
 ghost use Rattle.base.specs.Sum.{checksumOf};
 ghost use Rattle.base.specs.Writing.{writeCall, writtenTold};
 ghost use Rattle.escaping.specs.Escaping.{escapeOf, unescapeCall};
-ghost use Rattle.framing.specs.Framing.{packCall, ackCall, unpackCall};
+ghost use Rattle.framing.specs.Framing.{packCall, ackCall, unpackCall, unpackedTold};
+ghost use Rattle.heading.specs.Heading.{headerRead};
 ghost use Rattle.telling.specs.Told.{statusOf, numbersOf, told, only};
 ghost use Rattle.numbers.specs.Numbers.{typeNumber, headerNumbers};
 
@@ -104,13 +105,12 @@ pub extern "C" fn mdr_ack(seq: u8, out: &mut [u8], values: &mut [u64]) -> u8
     written(frame::ack(seq, out), values)
 }
 
-#[no_mangle]
-pub extern "C" fn mdr_unpack(frame: &[u8], work: &mut [u8], values: &mut [u64]) -> u8
-    ensures { λ r. ⌜ r ≡ statusOf (unpackCall (now (frame .entry)) (now (work .entry)) .answer) ⌝ }
-    ensures { λ _. ⌜ now (values .exit) ≡ told (numbersOf headerNumbers (unpackCall (now (frame .entry)) (now (work .entry)) .answer)) (now (values .entry)) ⌝ }
-    ensures { λ _. ⌜ now (work .exit) ≡ unpackCall (now (frame .entry)) (now (work .entry)) .work ⌝ }
+// A frame's type, sequence and payload length.
+fn header_told(u: Unpacked, values: &mut [u64]) -> u8
+    ensures { λ r. ⌜ r ≡ statusOf (unpackedTold u) ⌝ }
+    ensures { λ _. ⌜ now (values .exit) ≡ told (numbersOf headerNumbers (unpackedTold u)) (now (values .entry)) ⌝ }
 {
-    match frame::unpack(frame, work) {
+    match u {
         Unpacked::Frame {
             data_type,
             seq,
@@ -122,4 +122,21 @@ pub extern "C" fn mdr_unpack(frame: &[u8], work: &mut [u8], values: &mut [u64]) 
         }
         Unpacked::Refused(r) => refuse(r, values),
     }
+}
+
+#[no_mangle]
+pub extern "C" fn mdr_unpack(frame: &[u8], work: &mut [u8], values: &mut [u64]) -> u8
+    ensures { λ r. ⌜ r ≡ statusOf (unpackCall (now (frame .entry)) (now (work .entry)) .answer) ⌝ }
+    ensures { λ _. ⌜ now (values .exit) ≡ told (numbersOf headerNumbers (unpackCall (now (frame .entry)) (now (work .entry)) .answer)) (now (values .entry)) ⌝ }
+    ensures { λ _. ⌜ now (work .exit) ≡ unpackCall (now (frame .entry)) (now (work .entry)) .work ⌝ }
+{
+    header_told(frame::unpack(frame, work), values)
+}
+
+#[no_mangle]
+pub extern "C" fn mdr_read_header(frame: &[u8], values: &mut [u64]) -> u8
+    ensures { λ r. ⌜ r ≡ statusOf (headerRead (now (frame .entry))) ⌝ }
+    ensures { λ _. ⌜ now (values .exit) ≡ told (numbersOf headerNumbers (headerRead (now (frame .entry)))) (now (values .entry)) ⌝ }
+{
+    header_told(frame::read_header(frame), values)
 }

@@ -14,7 +14,7 @@ use Rattle.base.specs.Outcome.{Outcome, accepted, refused, pick, onAccepted}
 use Rattle.base.specs.DataType.{fromWire, toWire}
 use Rattle.base.specs.Sum.{total, checksumOf}
 use Rattle.escaping.specs.Escaping.{START, END, SENTRY, escapedByte, eachOf, escapeOf, thenByte, escapeeThen, unescapeOf, escapeeOf}
-use Rattle.framing.specs.Framing.{lengthField, summedOf, bodyOf, frameOf, Header, lengthOf, carried, summed, bodyChecked, thenChecked, inner, marked, unpackOf, payloadOf, headerOf, unpackBy, unpackCall}
+use Rattle.framing.specs.Framing.{lengthField, summedOf, bodyOf, frameOf, Header, lengthOf, carried, summed, bodyChecked, thenChecked, inner, marked, unpackOf, payloadOf, repacked, headerOf, unpackBy, unpackCall}
 use Rattle.base.specs.declared.data_type.DataType.{DataType}
 use Rattle.base.proofs.LawsTests.{by-eqb}
 use Rattle.base.proofs.LawsDataType.{Yielded, returns}
@@ -55,7 +55,7 @@ module _ (body : List ℕ) where
       ∙ ap (λ (xs : List ℕ). thenChecked (unescapeOf xs)) frame-inner ∙ ap thenChecked (unescape-escape body)
 
 -- the length field reads back, and four bytes are the field of what they read as
-field-back : (n : ℕ) → n ≤ 4294967295 → n / 16777216 % 256 * 16777216 + n / 65536 % 256 * 65536 + n / 256 % 256 * 256 + n % 256 ≡ n
+pub field-back : (n : ℕ) → n ≤ 4294967295 → n / 16777216 % 256 * 16777216 + n / 65536 % 256 * 65536 + n / 256 % 256 * 256 + n % 256 ≡ n
 field-back n h =
     let top : n / 16777216 % 256 ≡ n / 16777216 = omega arith in
     let low : n / 256 * 256 + n % 256 ≡ n = omega arith in
@@ -72,7 +72,7 @@ field-back n h =
 digit : (x d : ℕ) → d < 256 → ((x * 256 + d) / 256 ≡ x) × ((x * 256 + d) % 256 ≡ d)
 digit x d h = (omega arith, omega arith)
 
-field-of : (a b c d : ℕ) → a < 256 → b < 256 → c < 256 → d < 256 → lengthField (a * 16777216 + b * 65536 + c * 256 + d) ≡ a ∷ b ∷ c ∷ d ∷ []
+pub field-of : (a b c d : ℕ) → a < 256 → b < 256 → c < 256 → d < 256 → lengthField (a * 16777216 + b * 65536 + c * 256 + d) ≡ a ∷ b ∷ c ∷ d ∷ []
 field-of a b c d ha hb hc hd =
     let n = a * 16777216 + b * 65536 + c * 256 + d in
     let e : n ≡ ((a * 256 + b) * 256 + c) * 256 + d = omega arith in
@@ -144,6 +144,10 @@ unfolding bodyOf
 payload-back kind seq p rest =
     let c = checksumOf (summedOf kind seq p) in
     ap (take (length p)) (append-assoc p (c ∷ []) rest) ∙ take-at p ((c ∷ []) ++ rest) (length p) refl
+
+pub payload-of-body : (kind seq : ℕ) (p : List ℕ) → payloadOf (bodyOf kind seq p) ≡ p
+unfolding bodyOf
+payload-of-body kind seq p = take-at p (checksumOf (summedOf kind seq p) ∷ []) (length (bodyOf kind seq p) - 7) (omega (arith, body-length kind seq p))
 
 pub unpack-packed : (t : DataType) (seq : ℕ) (p work : List ℕ) → Yielded t → length p ≤ 4294967295
     → length (frameOf (bodyOf (toWire t) seq p)) - 2 ≤ length work
@@ -253,7 +257,7 @@ pub record Accepted (f body : List ℕ) : Type 0 where
   pub unescaped : unescapeOf (inner f) ≡ accepted body
   pub checked : Checked body body
 
-between : (f : List ℕ) → 9 ≤ length f → getD f 0 0 ≡ START → getD f (length f - 1) 0 ≡ END → f ≡ START ∷ inner f ++ (END ∷ [])
+pub between : (f : List ℕ) → 9 ≤ length f → getD f 0 0 ≡ START → getD f (length f - 1) 0 ≡ END → f ≡ START ∷ inner f ++ (END ∷ [])
 between [] long s e = absurd (omega arith)
 between (x ∷ xs) long s e =
     let j = length xs - 1 in
@@ -287,27 +291,56 @@ accepted-facts f {body} = go (ltb (length f) 9) refl (eqb (getD f 0 0) START) re
           checked = c .1;
         }
 
-bytes-drop : (n : ℕ) (xs : List ℕ) → Bytes xs → Bytes (drop n xs)
+pub bytes-drop : (n : ℕ) (xs : List ℕ) → Bytes xs → Bytes (drop n xs)
 bytes-drop zero xs by = by
 bytes-drop (suc n) [] by = tt
 bytes-drop (suc n) (x ∷ xs) by = bytes-drop n xs (by .1)
 
-bytes-take : (n : ℕ) (xs : List ℕ) → Bytes xs → Bytes (take n xs)
+pub bytes-take : (n : ℕ) (xs : List ℕ) → Bytes xs → Bytes (take n xs)
 bytes-take zero xs by = tt
 bytes-take (suc n) [] by = tt
 bytes-take (suc n) (x ∷ xs) by = (by .0, bytes-take n xs (by .1))
 
--- what pack writes for an accepted body's type, sequence and payload
-abbrev pub repacked : List ℕ → List ℕ
-repacked body = frameOf (bodyOf (getD body 0 0) (getD body 1 0) (payloadOf body))
+-- the body of a frame of bytes is bytes
+pub unpack-bytes : (f body : List ℕ) → Bytes f → unpackOf f ≡ accepted body → Bytes body
+unpack-bytes f body by e =
+    let inside : Bytes (inner f) = bytes-take (length f - 1 - 1) (drop 1 f) (bytes-drop 1 f by) in
+    rw (accepted-facts f e .unescaped) at (unescape-bytes (inner f) inside)
+
+-- and so is the frame of a body of bytes
+pub bytes-append : (xs ys : List ℕ) → Bytes xs → Bytes ys → Bytes (xs ++ ys)
+bytes-append [] ys bx by = by
+bytes-append (x ∷ xs) ys bx by = (bx .0, bytes-append xs ys (bx .1) by)
+
+escape-bytes : (bs : List ℕ) → Bytes bs → Bytes (escapeOf bs)
+unfolding eachOf
+escape-bytes [] by = tt
+escape-bytes (b ∷ bs) by = bytes-append (escapedByte b) (escapeOf bs) (of-byte b (by .0)) (escape-bytes bs (by .1))
+  where
+    of-byte : (b : ℕ) → b < 256 → Bytes (escapedByte b)
+    of-byte =
+        each-byte (λ b e. b < 256 → Bytes e) (λ _. (omega arith, (omega arith, tt))) (λ _. (omega arith, (omega arith, tt))) (λ _. (omega arith, (omega arith, tt)))
+        (λ b _ _ _ h. (h, tt))
+
+pub frame-bytes : (body : List ℕ) → Bytes body → Bytes (frameOf body)
+unfolding frameOf
+frame-bytes body by = (omega arith, bytes-append (escapeOf body) (END ∷ []) (escape-bytes body by) (omega arith, tt))
+
+pub body-bytes : (kind seq : ℕ) (p : List ℕ) → kind < 256 → seq < 256 → Bytes p → Bytes (bodyOf kind seq p)
+unfolding bodyOf
+body-bytes kind seq p k s by =
+    let n = length p in
+    bytes-append (summedOf kind seq p) (checksumOf (summedOf kind seq p) ∷ []) (k, (s, (below n 16777216, (below n 65536, (below n 256, (omega arith, by)))))) (omega arith, tt)
+  where
+    below : (n d : ℕ) → n / d % 256 < 256
+    below n d = omega arith
 
 -- "Raw `3E` or `3C` inside is accepted by `unpack`; packing again then differs, exactly in that case"
 pub repack-same : (f body : List ℕ) → Bytes f → unpackOf f ≡ accepted body → Free START (inner f) → Free END (inner f) → repacked body ≡ f
 unfolding frameOf
 repack-same f body by e fs fe =
     let a = accepted-facts f e in
-    let inside : Bytes (inner f) = bytes-take (length f - 1 - 1) (drop 1 f) (bytes-drop 1 f by) in
-    let bs : Bytes body = rw (a .unescaped) at (unescape-bytes (inner f) inside) in
+    let bs : Bytes body = unpack-bytes f body by e in
     let es : escapeOf body ≡ inner f = rw (a .unescaped) at (escapes (inner f) fs fe) in
     ap frameOf (body-parts body bs (a .checked)) ∙ ap (λ (xs : List ℕ). START ∷ xs ++ (END ∷ [])) es ∙ sym (a .framed)
 

@@ -17,3 +17,6 @@ pub use framing::Unpacked;
 pub use framing::ack;
 pub use framing::pack;
 pub use framing::unpack;
+pub use heading::Pass;
+pub use heading::Passed;
+pub use heading::read_header;

@@ -98,6 +98,10 @@ pub record UnpackEffect : Type 0 where
 abbrev pub payloadOf : List ℕ → List ℕ
 payloadOf body = take (length body - 7) (drop 6 body)
 
+-- what pack writes for a body's type, sequence and payload
+abbrev pub repacked : List ℕ → List ℕ
+repacked body = frameOf (bodyOf (getD body 0 0) (getD body 1 0) (payloadOf body))
+
 abbrev pub headerOf : List ℕ → Header
 headerOf body = record { kind = fromWire (getD body 0 0); seq = getD body 1 0; len = length body - 7 }
 

@@ -42,6 +42,7 @@ pub fn rule(r: Refusal) {
         Refusal::NoSuchDevice => say(b"the list has no such device"),
         Refusal::StepZero => say(b"the range has the step 0"),
         Refusal::NotText => say(b"a text is not UTF-8 (RFC 3629)"),
+        Refusal::NotALine => say(b"not a line of a log"),
     }
 }
 

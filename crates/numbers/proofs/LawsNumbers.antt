@@ -1,4 +1,4 @@
--- The numbers of a battery report, cell by cell, and those of a capability, whose ranges stand beside the answer.
+-- The numbers of a battery report, cell by cell, those of a capability, whose ranges stand beside the answer, and those of a line that was read.
 use Prim.Native.Nat.{ℕ}
 use mathlib.Core.Path.{_≡_, refl, sym, ap, _∙_}
 use mathlib.Core.List.{List, [], _∷_, _++_, append-assoc}
@@ -13,7 +13,10 @@ use Rattle.capability.specs.declared.capability.NoiseCapability.{NoiseCapabilit
 use Rattle.battery.specs.declared.battery.OptionCell.{OptionCell}
 use Rattle.battery.specs.declared.battery.OptionCell.the-variants.{Present, Absent}
 use Rattle.battery.specs.declared.battery.BatteryReport.{BatteryReport}
-use Rattle.numbers.specs.Numbers.{cellNumbers, batteryNumbers, reportNumbers, capabilityNumbers}
+use Rattle.reading.specs.declared.message.OptionByte.{OptionByte}
+use Rattle.reading.specs.declared.message.OptionByte.the-variants.{Byte, NoByte}
+use Rattle.line_reader.specs.LineReader.{optionOf}
+use Rattle.numbers.specs.Numbers.{byteOr256, cellNumbers, batteryNumbers, reportNumbers, capabilityNumbers, commandNumber}
 
 -- three numbers one by one, before others
 abbrev pub front : List ℕ → List ℕ → List ℕ
@@ -46,3 +49,7 @@ module _ (n : NoiseCapability) {o : Outcome Capability} (told : capabilityTold n
 
     pub report-told : n .report ≡ capabilityReport o → reportNumbers k (n .report) ≡ capabilityNumbers reading
     report-told h = ap (reportNumbers k) (h ∙ ap capabilityReport (sym read))
+
+pub command-told : (b : OptionByte) → byteOr256 b ≡ commandNumber (optionOf b)
+command-told (Byte b) = refl
+command-told NoByte = refl

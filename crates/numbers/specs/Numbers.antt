@@ -5,7 +5,7 @@ use mathlib.Core.List.{List, [], _∷_, _++_}
 use mathlib.Core.Option.{Option, none, some}
 use lib.Dec.{eqb}
 use lib.ListN.{getD}
-use Rattle.base.specs.Outcome.{pick}
+use Rattle.base.specs.Outcome.{Outcome, accepted, refused, pick}
 use Rattle.base.specs.DataType.{toWire}
 use Rattle.framing.specs.Framing.{Header}
 use Rattle.base.specs.declared.data_type.DataType.{DataType}
@@ -26,6 +26,7 @@ use Rattle.noise.specs.declared.noise.NoiseMode.the-variants.{Off, Anc, Ambient
 use Rattle.noise.specs.declared.noise.OptionFlag.{OptionFlag}
 use Rattle.noise.specs.declared.noise.OptionFlag.the-variants.{Flag, NoFlag}
 use Rattle.noise.specs.declared.noise.NoiseReport.{NoiseReport}
+use Rattle.line_reader.specs.LineReader.{Line, unreadLine, headerLine, maskedLine, fullLine}
 use Rattle.payload.specs.declared.setting.GeneralSettingParam.{GeneralSettingParam}
 use Rattle.setting_info.specs.declared.setting_info.GeneralSetting.{GeneralSetting}
 use Rattle.paired.specs.declared.paired.PairedDevice.{PairedDevice}
@@ -94,6 +95,22 @@ sightNumbers (Both at len) = 2 ∷ at ∷ len ∷ []
 abbrev pub lineNumbers : Option ℕ → List ℕ
 lineNumbers (some len) = len ∷ []
 lineNumbers none = 0 ∷ []
+
+abbrev pub commandNumber : Option ℕ → ℕ
+commandNumber (some command) = command
+commandNumber none = 256
+
+-- the letter, the type's wire byte, the sequence, the payload's length, and of `H` the command; of `R` the letter and the refusal's number
+abbrev pub lineReadNumbers : Line → List ℕ
+lineReadNumbers (unreadLine number) = 0x52 ∷ number ∷ 0 ∷ 0 ∷ 256 ∷ []
+lineReadNumbers (headerLine kind seq len command) = 0x48 ∷ kind ∷ seq ∷ len ∷ commandNumber command ∷ []
+lineReadNumbers (maskedLine kind seq len) = 0x53 ∷ kind ∷ seq ∷ len ∷ 256 ∷ []
+lineReadNumbers (fullLine kind seq len) = 0x46 ∷ kind ∷ seq ∷ len ∷ 256 ∷ []
+
+-- a refusal is not told so
+abbrev pub readNumbers : Outcome Line → List ℕ
+readNumbers (accepted line) = lineReadNumbers line
+readNumbers (refused n vs) = 0 ∷ 0 ∷ 0 ∷ 0 ∷ 256 ∷ []
 
 -- command, kind, length
 abbrev pub messageNumbers : Message → List ℕ

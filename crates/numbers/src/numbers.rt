@@ -1,5 +1,6 @@
 // A reading as numbers, in the order in which an exported call tells them.
 use capability::CapabilityReport;
+use line_reader::LineRead;
 use paired::PairedDevice;
 use payload::BatteryReport;
 use payload::Charging;
@@ -10,7 +11,8 @@ use payload::OptionCell;
 use payload::OptionFlag;
 use setting_info::GeneralSetting;
 ghost use mathlib.Core.Path.{_≡_};
-ghost use Rattle.numbers.specs.Numbers.{bit, byteOr256, flagOr2, chargingNumber, cellNumbers, batteryNumbers, modeNumber, noiseNumbers, reportNumbers, deviceNumbers, infoNumbers};
+ghost use Rattle.line_reader.specs.LineReader.{readTold};
+ghost use Rattle.numbers.specs.Numbers.{bit, byteOr256, flagOr2, chargingNumber, cellNumbers, batteryNumbers, modeNumber, noiseNumbers, reportNumbers, deviceNumbers, infoNumbers, readNumbers};
 
 const ABSENT: u64 = 256;
 
@@ -167,4 +169,47 @@ pub fn setting_info(s: GeneralSetting) -> [u64; 5]
         summary.offset as u64,
         summary.len as u64,
     ]
+}
+
+pub fn line(read: LineRead) -> [u64; 5]
+    ensures { λ r. ⌜ r ≡ readNumbers (readTold read) ⌝ }
+{
+    match read {
+        LineRead::Unread(number) => [b'R' as u64, number as u64, 0, 0, ABSENT],
+        LineRead::Header {
+            data_type,
+            seq,
+            len,
+            command,
+        } => [
+            b'H' as u64,
+            data_type.to_wire() as u64,
+            seq as u64,
+            len as u64,
+            byte_or(command),
+        ],
+        LineRead::Masked {
+            data_type,
+            seq,
+            len,
+        } => [
+            b'S' as u64,
+            data_type.to_wire() as u64,
+            seq as u64,
+            len as u64,
+            ABSENT,
+        ],
+        LineRead::Full {
+            data_type,
+            seq,
+            len,
+        } => [
+            b'F' as u64,
+            data_type.to_wire() as u64,
+            seq as u64,
+            len as u64,
+            ABSENT,
+        ],
+        LineRead::Refused(_) => [0, 0, 0, 0, ABSENT],
+    }
 }

@@ -28,6 +28,17 @@ pub fn first_mut(s: &mut [u8], n: usize) -> &mut [u8] {
     &mut s[0..end]
 }
 
+// The bytes of a buffer behind its first n: none where it has fewer.
+pub fn behind(s: &[u8], n: usize) -> &[u8] {
+    let at = least(n, s.len());
+    &s[at..]
+}
+
+pub fn behind_mut(s: &mut [u8], n: usize) -> &mut [u8] {
+    let at = least(n, s.len());
+    &mut s[at..]
+}
+
 fn at_or_end(input: &[u8], at: usize) -> u8 {
     if at < input.len() { input[at] } else { b'\n' }
 }

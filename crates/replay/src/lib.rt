@@ -13,6 +13,8 @@ pub use answer::number;
 pub use answer::put;
 pub use answer::refusal;
 pub use answer::word;
+pub use cases::behind;
+pub use cases::behind_mut;
 pub use cases::byte_field;
 pub use cases::field;
 pub use cases::first;

@@ -1,7 +1,9 @@
 //! Each function beside the Rust's. On both sides a call is one that the compiler does not inline, on inputs that it does not know.
 use crate::system::processor_time;
 use common::choice::Choice;
-use common::frames::{self, framed};
+use common::frames::{self, framed, house_plan};
+use common::lines::{self, Line};
+use common::log::Log;
 use common::streams::{Kind, stream};
 use original::mdr::DataType;
 use original::mdr::frame::{self, checksum, escape_into, pack, pack_into, unescape, unpack};
@@ -69,6 +71,7 @@ pub fn table() {
     for piece in [64, 4_096] {
         scanners(piece);
     }
+    read_lines();
 }
 
 // The Rust's functions, each a call that is not inlined.
@@ -180,6 +183,15 @@ fn framing(n: usize) {
         INPUTS,
     );
     row(&format!("unpack, {n}"), times);
+    let times = time(
+        |i| {
+            black_box(ours::read_header(black_box(&packed[i]), &mut values));
+            black_box(&values);
+        },
+        |i| drop(black_box(rust_unpack(black_box(&packed[i])))),
+        INPUTS,
+    );
+    row(&format!("read_header, {n}, beside `unpack`"), times);
     let mut wide = vec![0; 12_288];
     let times = time(
         |i| {
@@ -373,4 +385,49 @@ fn spans_65536(bytes: &[u8], piece: usize) -> usize {
         }
     }
     spans
+}
+
+#[inline(never)]
+fn rust_read_line(line: &[u8]) -> Option<Line> {
+    lines::read(line)
+}
+
+/// The lines of the log of a mixed session of 1 MiB, all of them and those of each letter.
+fn read_lines() {
+    let mut log = Vec::new();
+    let mut scanner = frame::Scanner::new();
+    scanner.push(&stream(Kind::Mixed, 2, 1 << 20));
+    while let Some(span) = scanner.next_raw() {
+        Log::default().line(&house_plan(), &span, &mut log);
+    }
+    let all: Vec<&[u8]> = log.split_inclusive(|&b| b == b'\n').collect();
+    lines_row("the lines of a mixed session", &all);
+    for letter in [b'F', b'S', b'H', b'R'] {
+        let of_it: Vec<&[u8]> = all.iter().filter(|line| line[0] == letter).copied().collect();
+        lines_row(&format!("its `{}` lines", char::from(letter)), &of_it);
+    }
+}
+
+fn lines_row(name: &str, lines: &[&[u8]]) {
+    let mut values = [0; 5];
+    let mut out = vec![0; 65_536];
+    for line in lines {
+        let payload: &[u8] = match rust_read_line(line) {
+            Some(Line::Masked(ref f) | Line::Full(ref f)) => &f.payload.clone(),
+            Some(_) => &[],
+            None => panic!("a line of the log is not read"),
+        };
+        assert_eq!(ours::read_line(line, &mut out, &mut values), 0);
+        assert_eq!((values[0], &out[..payload.len()]), (line[0].into(), payload));
+    }
+    let times = time(
+        |i| {
+            black_box(ours::read_line(black_box(lines[i]), &mut out, &mut values));
+            black_box((&out, &values));
+        },
+        |i| drop(black_box(rust_read_line(black_box(lines[i])))),
+        lines.len(),
+    );
+    let bytes = lines.iter().map(|line| line.len()).sum::<usize>() / lines.len();
+    row(&format!("read_line, {name}, {bytes} bytes each"), times);
 }

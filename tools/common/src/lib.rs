@@ -1,7 +1,8 @@
-//! What the tools share: the choice of cases, frames and streams, and the log of a stream over the Rust original. Nothing here calls the
-//! proved library.
+//! What the tools share: the choice of cases, frames and streams, and the log of a stream and the reader of its lines over the Rust
+//! original. Nothing here calls the proved library.
 pub mod choice;
 pub mod frames;
+pub mod lines;
 pub mod log;
 pub mod settings;
 pub mod streams;

@@ -48,6 +48,10 @@ pub fn unpack(frame: &[u8], work: &mut [u8], values: &mut [u64]) -> u8 {
     unsafe { sys::mdr_unpack(frame.as_ptr(), frame.len(), work.as_mut_ptr(), work.len(), values.as_mut_ptr(), values.len()) }
 }
 
+pub fn read_header(frame: &[u8], values: &mut [u64]) -> u8 {
+    unsafe { sys::mdr_read_header(frame.as_ptr(), frame.len(), values.as_mut_ptr(), values.len()) }
+}
+
 pub fn open(scanner: &mut Scanner, limit: usize, store: &mut [u8]) -> u8 {
     unsafe { sys::mdr_open(scanner, limit, store.as_mut_ptr(), store.len()) }
 }
@@ -196,4 +200,8 @@ pub fn all_lines(scanner: &mut Scanner, store: &mut [u8], plan: &[u8], work: &mu
             values.len(),
         )
     }
+}
+
+pub fn read_line(line: &[u8], out: &mut [u8], values: &mut [u64]) -> u8 {
+    unsafe { sys::mdr_read_line(line.as_ptr(), line.len(), out.as_mut_ptr(), out.len(), values.as_mut_ptr(), values.len()) }
 }

@@ -1,4 +1,4 @@
-//! Data types, checksum, escape, unescape, pack, ack and unpack beside the Rust's.
+//! Data types, checksum, escape, unescape, pack, ack, unpack and read_header beside the Rust's.
 use crate::case::{Case, Run, Tally, fewer, fewer_in_frame, hex};
 use crate::inputs::{any, content, length, room, shortest, strings, values};
 use crate::lent::{Left, Lent, MOST_VALUES, Told, Values, left_difference, told_difference};
@@ -16,6 +16,7 @@ pub enum Call {
     Pack,
     Ack,
     Unpack,
+    ReadHeader,
 }
 
 #[derive(Clone, Debug)]
@@ -112,6 +113,14 @@ fn unescape(src: &[u8], m: usize) -> (Told, Left) {
     }
 }
 
+/// What unpack and read_header tell of a frame.
+fn header(answer: &Result<frame::Frame, FrameError>) -> Told {
+    match answer {
+        Ok(f) => Told::accepted(&[f.data_type.to_wire().into(), f.seq.into(), f.payload.len() as u64]),
+        Err(e) => refused(*e),
+    }
+}
+
 /// Unpack in a work area of `m` bytes: 8, 9, 10, then 11, and nothing changes; 12 to 16 leave zeros; accepted, the body stands at the front
 /// and the rest is zero.
 fn unpack(bytes: &[u8], m: usize) -> (Told, Left) {
@@ -122,13 +131,13 @@ fn unpack(bytes: &[u8], m: usize) -> (Told, Left) {
     if m < bytes.len() - 2 {
         return (Told::refused(11), Left::Untouched);
     }
+    let told = header(&answer);
     match answer {
-        Err(e) => (refused(e), Left::Zero),
+        Err(_) => (told, Left::Zero),
         Ok(f) => {
             let body = frame::unescape(&bytes[1..bytes.len() - 1]).expect("the body of an accepted frame");
             assert_eq!(body[6..body.len() - 1], f.payload);
-            let told = [f.data_type.to_wire().into(), f.seq.into(), f.payload.len() as u64];
-            (Told::accepted(&told), Left::FrontThenZero(body))
+            (told, Left::FrontThenZero(body))
         }
     }
 }
@@ -168,11 +177,16 @@ impl Case for Framing {
                 let need = bytes.len().saturating_sub(2);
                 self.compare(tally, "unpack", need, |m| unpack(bytes, m), |out, values| ours::unpack(bytes, out, values))
             }
+            Call::ReadHeader => {
+                let expected = |_| (header(&frame::unpack(bytes)), Left::Untouched);
+                self.compare(tally, "read_header", 0, expected, |_, values| ours::read_header(bytes, values))
+            }
         }
     }
 
     fn smaller(&self) -> Vec<Framing> {
-        let fewer = if self.call == Call::Unpack { fewer_in_frame(&self.bytes) } else { fewer(&self.bytes) };
+        let framed = matches!(self.call, Call::Unpack | Call::ReadHeader);
+        let fewer = if framed { fewer_in_frame(&self.bytes) } else { fewer(&self.bytes) };
         let mut all: Vec<Framing> = fewer.into_iter().map(|bytes| Framing { bytes, ..self.clone() }).collect();
         if self.room != 0 {
             all.push(Framing { room: 0, ..self.clone() });
@@ -216,13 +230,14 @@ pub fn exhaustive(run: &mut Run) {
         }
     }
     for bytes in shortest() {
-        for call in [Call::Checksum, Call::Escape, Call::Unescape, Call::Pack, Call::Unpack] {
+        for call in [Call::Checksum, Call::Escape, Call::Unescape, Call::Pack, Call::Unpack, Call::ReadHeader] {
             run.case(&Framing::of(call, bytes.clone(), 0));
         }
         run.case(&Framing::of(Call::Escape, bytes.clone(), -1));
         run.case(&Framing::of(Call::Unescape, bytes.clone(), -1));
         run.case(&Framing { data_type: 0x0C, seq: 1, ..Framing::of(Call::Pack, bytes.clone(), -1) });
         run.case(&Framing::of(Call::Unpack, framed(0x0C, 1, &bytes), 0));
+        run.case(&Framing::of(Call::ReadHeader, framed(0x0C, 1, &bytes), 0));
     }
     // The special bytes and those that stand for them, in every order.
     let few = [END, SENTRY, START, 0x2C, 0x2D, 0x2E, 0x41];
@@ -239,7 +254,8 @@ pub fn exhaustive(run: &mut Run) {
             for b in 0..=255 {
                 let mut frame = frame.clone();
                 frame[at] = b;
-                run.case(&Framing::of(Call::Unpack, frame, 0));
+                run.case(&Framing::of(Call::Unpack, frame.clone(), 0));
+                run.case(&Framing::of(Call::ReadHeader, frame, 0));
             }
         }
         // Every buffer up to it.
@@ -271,8 +287,8 @@ fn odd_frame(c: &mut Choice) -> Vec<u8> {
     out
 }
 
-/// Something for unpack: a good frame, a damaged one, an odd one, a body that is too short or ends in a sentry, or any bytes between markers.
-fn frame_like(c: &mut Choice) -> Vec<u8> {
+/// Something to unpack: a good frame, a damaged one, an odd one, a body that is too short or ends in a sentry, or any bytes between markers.
+pub fn frame_like(c: &mut Choice) -> Vec<u8> {
     let mut frame = match c.below(8) {
         0 | 1 => {
             let (data_type, command, entry) = c.of(&HOUSE);
@@ -305,9 +321,11 @@ pub fn random(run: &mut Run, c: &mut Choice) {
         Call::Unpack,
         Call::Unpack,
         Call::Unpack,
+        Call::ReadHeader,
+        Call::ReadHeader,
     ]);
     let bytes = match call {
-        Call::Unpack => frame_like(c),
+        Call::Unpack | Call::ReadHeader => frame_like(c),
         // Escaped bytes, now and then damaged, go farther than any bytes.
         Call::Unescape if c.one_in(2) => {
             let mut bytes = Vec::new();

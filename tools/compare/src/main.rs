@@ -3,6 +3,7 @@ mod case;
 mod framing;
 mod inputs;
 mod lent;
+mod lines;
 mod ranges;
 mod readings;
 mod sessions;
@@ -32,12 +33,16 @@ fn main() {
     readings::exhaustive(&mut run);
     ranges::exhaustive(&mut run);
     sessions::exhaustive(&mut run);
+    lines::exhaustive(&mut run);
     println!("{} of them exhaustive, after {} s", run.tally.total(), start.elapsed().as_secs());
 
     let mut c = Choice::new(seed);
     while run.tally.total() < cases {
         for _ in 0..24 {
             framing::random(&mut run, &mut c);
+        }
+        for _ in 0..12 {
+            lines::random(&mut run, &mut c);
         }
         for _ in 0..12 {
             readings::random(&mut run, &mut c);

@@ -1,5 +1,5 @@
 //! Cases for `frame`: the Rust's `checksum`, `escape_into`, `unescape`, `pack`, `ack_frame`, `unpack` and `DataType`.
-use crate::text::{Choice, List, field, lent, rule, shown, sum};
+use crate::text::{Choice, List, field, lent, over, rule, shown, sum};
 use common::log::number;
 use original::mdr::DataType;
 use original::mdr::frame::{self, FrameError};
@@ -61,13 +61,6 @@ fn escaped(src: &[u8]) -> Vec<u8> {
 }
 
 // OURS, by document 01: the Rust has no lent buffers, so the refusals 11 and 18, and what a buffer holds after a call, are computed here.
-
-/// Accepted: the bytes at the front, those behind stay.
-fn over(bytes: &[u8], m: usize) -> Vec<u8> {
-    let mut out = lent(m);
-    out[..bytes.len()].copy_from_slice(bytes);
-    out
-}
 
 /// Escape, pack and ack into a buffer of `m` bytes: 18 where it is too short, and nothing changes.
 fn written(bytes: &[u8], m: usize) -> String {

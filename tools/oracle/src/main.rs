@@ -1,5 +1,8 @@
 //! Prints the case lists of the replay programs, and the answers that the Rust original gives.
+mod again;
 mod frames;
+mod inlog;
+mod lines;
 mod logs;
 mod payloads;
 mod scanners;
@@ -14,6 +17,9 @@ fn main() {
         Some("scanner") => bytes(scanners::list()),
         Some("payload") => bytes(payloads::list()),
         Some("log") => logs::list(),
+        Some("lines") => bytes(lines::list()),
+        Some("again") => again::list(),
+        Some("inlog") => inlog::list(),
         _ => usage(),
     };
     let printed = match words.get(1).map(String::as_str) {
@@ -29,6 +35,6 @@ fn bytes(list: text::List) -> (Vec<u8>, Vec<u8>) {
 }
 
 fn usage() -> ! {
-    eprintln!("usage: oracle frame|scanner|payload|log cases|answers");
+    eprintln!("usage: oracle frame|scanner|payload|log|lines|again|inlog cases|answers");
     std::process::exit(2)
 }

@@ -56,6 +56,13 @@ pub fn lent(n: usize) -> Vec<u8> {
     rule(84, n)
 }
 
+/// What it holds after one that is accepted: the bytes at the front, those behind stay.
+pub fn over(bytes: &[u8], n: usize) -> Vec<u8> {
+    let mut out = lent(n);
+    out[..bytes.len()].copy_from_slice(bytes);
+    out
+}
+
 /// Chooses the cases: xorshift, always from the same state.
 pub struct Choice(u64);
 

@@ -1,0 +1,2 @@
+pub mod LawsPass
+pub mod LawsHeading
