@@ -116,7 +116,10 @@ uint8_t mdr_seek(const uint8_t *bytes, size_t bytes_len, uint64_t *values, size_
 
 /* ---- readings ----
  *
- * `payload` is a frame's payload: command, kind, body. The command is not looked at. Refused by 19 where it is another message. */
+ * `payload` is a frame's payload: command, kind, body. The command is not looked at. Refused by 19 where it is another message.
+ *
+ * A character is one encoded code point (Unicode scalar value). How many there are is not the width on a screen: a letter and a combining
+ * accent behind it are two. */
 
 /* [command, kind or 256, length]. Refused (19) where the payload is empty. */
 uint8_t mdr_message(const uint8_t *payload, size_t payload_len, uint64_t *values, size_t values_len);
@@ -138,8 +141,9 @@ uint8_t mdr_equalizer(const uint8_t *payload, size_t payload_len, uint64_t *valu
 /* [count] of paired devices. */
 uint8_t mdr_paired_devices(const uint8_t *payload, size_t payload_len, uint64_t *values, size_t values_len);
 
-/* [offset of the address, status, detail 0, detail 1, detail 2, offset of the name, length of the name, whether the name is UTF-8].
- * Offsets are in the payload; an address has 17 bytes. Refused by 19, or by 21 where the index is not below the count. */
+/* [offset of the address, status, detail 0, detail 1, detail 2, offset of the name, length of the name, characters of the name, or 256
+ * where it is not UTF-8 (RFC 3629)]. Offsets are in the payload; an address has 17 bytes. The length counts bytes, at most 255; an empty
+ * name has 0 characters. Refused by 19, or by 21 where the index is not below the count. */
 uint8_t mdr_paired_device(const uint8_t *payload, size_t payload_len, size_t index, uint64_t *values, size_t values_len);
 
 /* Makes every byte of an address or a name `*`. A payload that mdr_paired_devices refuses stays. */
@@ -161,12 +165,14 @@ uint8_t mdr_support_functions(uint8_t table, const uint8_t *payload, size_t payl
 /* [slot, enabled]. */
 uint8_t mdr_general_setting(const uint8_t *payload, size_t payload_len, uint64_t *values, size_t values_len);
 
-/* [slot, offset of the name, length of the name, offset of the summary, length of the summary]. Offsets are in the payload. Lengths count
- * bytes and may be 0. Refused by 19, then by 23 where the name or the summary is not UTF-8 (RFC 3629). */
+/* [slot, offset of the name, length of the name, offset of the summary, length of the summary, characters of the name, characters of the
+ * summary], so 7 numbers. Offsets are in the payload. Lengths count bytes and may be 0. Refused by 19, then by 23 where the name or the
+ * summary is not UTF-8 (RFC 3629). */
 uint8_t mdr_general_setting_info(const uint8_t *payload, size_t payload_len, uint64_t *values, size_t values_len);
 
-/* Whether the bytes are UTF-8 (RFC 3629). */
-bool mdr_is_text(const uint8_t *bytes, size_t bytes_len);
+/* [1, characters] of bytes that are UTF-8 (RFC 3629), or [0] of others. Takes any bytes; where there are none, [1, 0]. Never refuses: the
+ * status is 0. */
+uint8_t mdr_count_characters(const uint8_t *bytes, size_t bytes_len, uint64_t *values, size_t values_len);
 
 /* [1] where a headset whose levels go from min to max by step takes `level`, else [0]. Refused by 22 where the step is 0 and the level
  * lies within. */

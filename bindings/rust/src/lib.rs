@@ -601,8 +601,8 @@ pub struct PairedDevice<'a> {
     pub status: u8,
     pub details: [u8; 3],
     pub name: &'a [u8],
-    /// whether the name is UTF-8
-    pub text: bool,
+    /// of the name, as by `count_characters`
+    pub characters: Option<u8>,
 }
 
 pub fn paired_device(payload: &[u8], index: usize) -> Result<PairedDevice<'_>, Refusal> {
@@ -613,7 +613,7 @@ pub fn paired_device(payload: &[u8], index: usize) -> Result<PairedDevice<'_>, R
         status: v[1] as u8,
         details: [v[2] as u8, v[3] as u8, v[4] as u8],
         name: part(v[5], v[6]),
-        text: v[7] == 1,
+        characters: byte(v[7]),
     })
 }
 
@@ -663,18 +663,29 @@ pub struct GeneralSettingInfo<'a> {
     pub slot: u8,
     pub name: &'a str,
     pub summary: &'a str,
+    /// of the name, as by `count_characters`
+    pub name_characters: u8,
+    pub summary_characters: u8,
 }
 
 pub fn general_setting_info(payload: &[u8]) -> Result<GeneralSettingInfo<'_>, Refusal> {
-    let v: [u64; 5] = told(|v, n| unsafe { sys::mdr_general_setting_info(payload.as_ptr(), payload.len(), v, n) })?;
+    let v: [u64; 7] = told(|v, n| unsafe { sys::mdr_general_setting_info(payload.as_ptr(), payload.len(), v, n) })?;
     let part = |at: u64, len: u64| &payload[at as usize..(at + len) as usize];
     let text = |at: u64, len: u64| std::str::from_utf8(part(at, len)).expect("the library accepts only text");
-    Ok(GeneralSettingInfo { slot: v[0] as u8, name: text(v[1], v[2]), summary: text(v[3], v[4]) })
+    Ok(GeneralSettingInfo {
+        slot: v[0] as u8,
+        name: text(v[1], v[2]),
+        summary: text(v[3], v[4]),
+        name_characters: v[5] as u8,
+        summary_characters: v[6] as u8,
+    })
 }
 
-/// Whether the bytes are UTF-8 (RFC 3629).
-pub fn is_text(bytes: &[u8]) -> bool {
-    unsafe { sys::mdr_is_text(bytes.as_ptr(), bytes.len()) }
+/// How many characters the bytes are, each a `char`, where they are UTF-8 (RFC 3629). That is not their width on a screen.
+pub fn count_characters(bytes: &[u8]) -> Option<usize> {
+    let mut v = [0; 2];
+    unsafe { sys::mdr_count_characters(bytes.as_ptr(), bytes.len(), v.as_mut_ptr(), v.len()) };
+    (v[0] == 1).then_some(v[1] as usize)
 }
 
 #[cfg(test)]

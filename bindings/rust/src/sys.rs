@@ -61,7 +61,7 @@ unsafe extern "C" {
     ) -> u8;
     pub fn mdr_general_setting(payload: *const u8, payload_len: usize, values: *mut u64, values_len: usize) -> u8;
     pub fn mdr_general_setting_info(payload: *const u8, payload_len: usize, values: *mut u64, values_len: usize) -> u8;
-    pub fn mdr_is_text(bytes: *const u8, bytes_len: usize) -> bool;
+    pub fn mdr_count_characters(bytes: *const u8, bytes_len: usize, values: *mut u64, values_len: usize) -> u8;
     pub fn mdr_admits(min: u8, max: u8, step: u8, level: i32, values: *mut u64, values_len: usize) -> u8;
     pub fn mdr_within(min: u8, max: u8, step: u8, low: u8, high: u8, values: *mut u64, values_len: usize) -> u8;
     pub fn mdr_eq_shape(count: usize) -> u8;

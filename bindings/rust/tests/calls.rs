@@ -227,9 +227,9 @@ fn fixed_readings() {
 
 #[test]
 fn setting_texts() {
-    let info = GeneralSettingInfo { slot: 0xD2, name: "été", summary: "Al" };
+    let info = GeneralSettingInfo { slot: 0xD2, name: "été", summary: "Al", name_characters: 3, summary_characters: 2 };
     assert_eq!(general_setting_info(b"\xD1\xD2\x00\x01\x05\xC3\xA9t\xC3\xA9\x02Al"), Ok(info));
-    let empty = GeneralSettingInfo { slot: 0xD1, name: "", summary: "" };
+    let empty = GeneralSettingInfo { slot: 0xD1, name: "", summary: "", name_characters: 0, summary_characters: 0 };
     assert_eq!(general_setting_info(&[0xD1, 0xD1, 0x00, 0x00, 0, 0]), Ok(empty));
 
     // Another type, another string format, a byte left over, a byte short, and nothing.
@@ -267,14 +267,84 @@ fn lists() {
 #[test]
 fn paired() {
     assert_eq!(paired_devices(DEVICES), Ok(1));
-    let device = PairedDevice { address: b"AA:BB:CC:DD:EE:FF", status: 1, details: [0, 7, 9], name: b"Al", text: true };
+    let address = b"AA:BB:CC:DD:EE:FF";
+    let device = PairedDevice { address, status: 1, details: [0, 7, 9], name: b"Al", characters: Some(2) };
     assert_eq!(paired_device(DEVICES, 0), Ok(device));
     assert_eq!(paired_device(DEVICES, 1), Err(Refusal::NoSuchDevice));
     let mut masked = DEVICES.to_vec();
     mask_paired(&mut masked);
     assert_eq!(masked, b"\x37\x02\x01*****************\x01\x00\x07\x09\x02**\x00");
-    assert!(is_text("é".as_bytes()));
-    assert!(!is_text(&[0xC0, 0x80]));
+}
+
+fn device_called(name: &[u8]) -> Vec<u8> {
+    [&DEVICES[..24], &[name.len() as u8], name, &[0]].concat()
+}
+
+fn setting_called(name: &[u8], summary: &[u8]) -> Vec<u8> {
+    [&[0xD1, 0xD1, 0x00, 0x00, name.len() as u8], name, &[summary.len() as u8], summary].concat()
+}
+
+#[test]
+fn characters() {
+    for (bytes, number) in [
+        (&b""[..], Some(0)),
+        (b"Al", Some(2)),
+        (&[b'n'; 255], Some(255)),
+        ("é".as_bytes(), Some(1)),
+        // A letter, and an accent behind it.
+        ("e\u{301}".as_bytes(), Some(2)),
+        ("ヘッドホン 🎧".as_bytes(), Some(7)),
+        // Cut inside a character.
+        (&[b'A', 0xC3], None),
+        (&"🎧".as_bytes()[..3], None),
+        (&[0xC0, 0x80], None),
+        (&[0xED, 0xA0, 0x80], None),
+    ] {
+        assert_eq!(count_characters(bytes), number);
+        let payload = device_called(bytes);
+        let device = paired_device(&payload, 0).unwrap();
+        assert_eq!((device.name, device.characters.map(usize::from)), (bytes, number));
+        let called = |name: &[u8], summary: &[u8]| {
+            let info = setting_called(name, summary);
+            general_setting_info(&info).map(|i| (i.name_characters.into(), i.summary_characters.into()))
+        };
+        assert_eq!(called(bytes, "té".as_bytes()), number.map(|n| (n, 2)).ok_or(Refusal::NotText));
+        assert_eq!(called("té".as_bytes(), bytes), number.map(|n| (2, n)).ok_or(Refusal::NotText));
+    }
+    // Longer than any name.
+    assert_eq!(count_characters("é".repeat(300).as_bytes()), Some(300));
+    assert_eq!(count_characters(&"é".repeat(300).as_bytes()[..599]), None);
+}
+
+/// What a call leaves in 9 numbers that were all 99, lent so many of them.
+fn told_in(room: usize, call: impl FnOnce(*mut u64, usize) -> u8) -> [u64; 9] {
+    let mut values = [99; 9];
+    assert_eq!(call(values.as_mut_ptr(), room), 0);
+    values
+}
+
+#[test]
+fn numbers_that_fit() {
+    let (device, none) = (device_called("Zoë".as_bytes()), device_called(&[0xFF]));
+    let setting = setting_called("Zoë".as_bytes(), b"Al");
+    for room in 0..=9 {
+        let front = |numbers: &[u64]| {
+            let mut values = [99; 9];
+            let n = numbers.len().min(room);
+            values[..n].copy_from_slice(&numbers[..n]);
+            values
+        };
+        for (bytes, numbers) in [("Zoë".as_bytes(), &[1, 3][..]), (b"", &[1, 0]), (&[0xFF], &[0])] {
+            let told = told_in(room, |v, n| unsafe { sys::mdr_count_characters(bytes.as_ptr(), bytes.len(), v, n) });
+            assert_eq!(told, front(numbers));
+        }
+        for (payload, len, characters) in [(&device, 4, 3), (&none, 1, 256)] {
+            let told = told_in(room, |v, n| unsafe { sys::mdr_paired_device(payload.as_ptr(), payload.len(), 0, v, n) });
+            assert_eq!(told, front(&[3, 1, 0, 7, 9, 25, len, characters]));
+        }
+        let told = told_in(room, |v, n| unsafe { sys::mdr_general_setting_info(setting.as_ptr(), setting.len(), v, n) });
+        assert_eq!(told, front(&[0xD1, 5, 4, 10, 2, 3, 2]));
+    }
 }
 
 #[test]

@@ -27,6 +27,8 @@ use payload::Split;
 use setting_info::SettingInfoAnswer;
 use telling::refuse;
 use telling::tell;
+use telling::tell_two;
+use text::Characters;
 ghost use mathlib.Core.Path.{_≡_};
 ghost use lib.ListN.{length};
 ghost use Rattle.reading.specs.Message.{splitOf};
@@ -35,13 +37,13 @@ ghost use Rattle.noise.specs.Noise.{noiseOf};
 ghost use Rattle.payload.specs.Setting.{settingOf};
 ghost use Rattle.setting_info.specs.SettingInfo.{infoOf};
 ghost use Rattle.paired.specs.Paired.{pairedOf, lookupOf, maskedOf};
-ghost use Rattle.text.specs.Text.{isTextOf};
+ghost use Rattle.text.specs.Text.{charactersOf};
 ghost use Rattle.capability.specs.Capability.{capabilityOf};
 ghost use Rattle.range.specs.Range.{admitsOf, admittedTold, withinOf};
 ghost use Rattle.equalizer.specs.Equalizer.{equalizerOf, stepsOf, shapeOf, biasOf, gainOf};
 ghost use Rattle.support.specs.Support.{checkOf, supportCall, supportTold};
 ghost use Rattle.telling.specs.Told.{statusOf, numbersOf, told, only};
-ghost use Rattle.numbers.specs.Numbers.{bitNumbers, messageNumbers, batteryNumbers, noiseNumbers, capabilityNumbers, equalizerNumbers, deviceNumbers, settingNumbers, infoNumbers, listNumbers, tableOf, unvoiced, withinNumbers, shapeNumber};
+ghost use Rattle.numbers.specs.Numbers.{bitNumbers, messageNumbers, batteryNumbers, noiseNumbers, capabilityNumbers, equalizerNumbers, characterNumbers, deviceNumbers, settingNumbers, infoNumbers, listNumbers, tableOf, unvoiced, withinNumbers, shapeNumber};
 
 #[no_mangle]
 pub extern "C" fn mdr_message(payload: &[u8], values: &mut [u64]) -> u8
@@ -243,10 +245,21 @@ pub extern "C" fn mdr_general_setting_info(payload: &[u8], values: &mut [u64]) -
 }
 
 #[no_mangle]
-pub extern "C" fn mdr_is_text(bytes: &[u8]) -> bool
-    ensures { λ r. ⌜ r ≡ isTextOf (now (bytes .entry)) ⌝ }
+pub extern "C" fn mdr_count_characters(bytes: &[u8], values: &mut [u64]) -> u8
+    ensures { λ r. ⌜ r ≡ 0 ⌝ }
+    ensures { λ _. ⌜ now (values .exit) ≡ told (characterNumbers (charactersOf (now (bytes .entry)))) (now (values .entry)) ⌝ }
 {
-    paired::is_text(bytes)
+    match text::count_characters(bytes) {
+        Characters::Number(n) => {
+            tell_two(1, n as u64, values);
+            0
+        }
+        Characters::NoText => {
+            let none = [0];
+            tell(&none, values);
+            0
+        }
+    }
 }
 
 // No range's answer depends on its voice value, so none is asked for.

@@ -153,6 +153,7 @@ fn lookup(payload: &[u8], index: usize) {
 }
 
 fn device(payload: &[u8], d: PairedDevice) {
+    let characters = d.characters;
     say(b"address ");
     address(part(payload, d.address, 17));
     say(b", status ");
@@ -164,5 +165,5 @@ fn device(payload: &[u8], d: PairedDevice) {
     say(b" ");
     byte(d.detail2);
     say(b", name ");
-    name(part(payload, d.name, d.len), d.text);
+    name(part(payload, d.name, d.len), characters);
 }

@@ -7,6 +7,7 @@ use crate::shown::name;
 use payload::GeneralSettingParam;
 use setting_info::GeneralSetting;
 use setting_info::SettingText;
+use text::Characters;
 
 pub fn setting_param(p: GeneralSettingParam) {
     of_slot(p.slot);
@@ -34,5 +35,8 @@ pub fn general_setting(s: GeneralSetting, payload: &[u8]) {
 fn text(label: &[u8], t: SettingText, payload: &[u8]) {
     row();
     say(label);
-    name(part(payload, t.offset, t.len), true);
+    name(
+        part(payload, t.offset, t.len),
+        Characters::Number(t.characters),
+    );
 }

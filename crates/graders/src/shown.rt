@@ -2,7 +2,10 @@
 use crate::say::byte;
 use crate::say::byte_at;
 use crate::say::bytes;
+use crate::say::counted;
 use crate::say::say;
+use text::Characters;
+use text::count_characters;
 
 fn on(i: usize, more: usize) -> usize {
     std::num::wrapping_add_usize(i, more)
@@ -78,11 +81,22 @@ pub fn address(s: &[u8]) {
     quoted(s, is_printable(s));
 }
 
-pub fn name(s: &[u8], text: bool) {
+// A name or a summary, and how many characters it is.
+pub fn name(s: &[u8], c: Characters) {
     if s.len() == 0 {
         say(b"empty");
-    } else {
-        quoted(s, text && !has_control(s));
+        return;
+    }
+    match c {
+        Characters::Number(n) => {
+            quoted(s, !has_control(s));
+            say(b" of ");
+            counted(n, b"character");
+        }
+        Characters::NoText => {
+            bytes(s);
+            say(b", no text");
+        }
     }
 }
 
@@ -114,9 +128,17 @@ fn one_less(n: usize) -> usize {
     if n > 0 { n - 1 } else { 0 }
 }
 
+// Bytes from 80 on stand as they are where all of the line is text.
+fn stands(s: &[u8]) -> bool {
+    match count_characters(s) {
+        Characters::Number(_) => true,
+        Characters::NoText => false,
+    }
+}
+
 // A line as it stands, save that bytes that are no text and control characters are in digits.
 pub fn heading(s: &[u8]) {
-    let text = text::is_text(s);
+    let text = stands(s);
     let mut left = 0;
     let mut i = 0;
     while i < s.len() {

@@ -28,6 +28,8 @@ use Rattle.noise.specs.declared.noise.OptionFlag.the-variants.{Flag, NoFlag}
 use Rattle.noise.specs.declared.noise.NoiseReport.{NoiseReport}
 use Rattle.line_reader.specs.LineReader.{Line, unreadLine, headerLine, maskedLine, fullLine}
 use Rattle.payload.specs.declared.setting.GeneralSettingParam.{GeneralSettingParam}
+use Rattle.text.specs.declared.text.Characters.{Characters}
+use Rattle.text.specs.declared.text.Characters.the-variants.{Number, NoText}
 use Rattle.setting_info.specs.declared.setting_info.GeneralSetting.{GeneralSetting}
 use Rattle.paired.specs.declared.paired.PairedDevice.{PairedDevice}
 use Rattle.capability.specs.Capability.{Capability, held, blank}
@@ -164,9 +166,19 @@ capabilityNumbers c = reportNumbers (c .kind) (held (c .ranges))
 abbrev pub equalizerNumbers : (steps : ℕ) → EqReport → List ℕ
 equalizerNumbers steps e = e .preset ∷ e .count ∷ steps ∷ []
 
--- offset of the address, status, the three details, offset and length of the name, whether it is text
+-- a text of any length: 1 and its characters; 0 for no text
+abbrev pub characterNumbers : Characters → List ℕ
+characterNumbers (Number n) = 1 ∷ n ∷ []
+characterNumbers NoText = 0 ∷ []
+
+-- a name has at most 255 bytes, so no more characters: 256 for no text
+abbrev pub charactersOr256 : Characters → ℕ
+charactersOr256 (Number n) = n
+charactersOr256 NoText = 256
+
+-- offset of the address, status, the three details, offset and length of the name, its characters
 abbrev pub deviceNumbers : PairedDevice → List ℕ
-deviceNumbers d = d .address ∷ d .status ∷ d .detail0 ∷ d .detail1 ∷ d .detail2 ∷ d .name ∷ d .len ∷ bit (d .text) ∷ []
+deviceNumbers d = d .address ∷ d .status ∷ d .detail0 ∷ d .detail1 ∷ d .detail2 ∷ d .name ∷ d .len ∷ charactersOr256 (d .characters) ∷ []
 
 -- how many records the list has
 abbrev pub listNumbers : SupportList → List ℕ
@@ -180,9 +192,9 @@ tableOf n = pick (eqb n 1) One Two
 abbrev pub settingNumbers : GeneralSettingParam → List ℕ
 settingNumbers p = p .slot ∷ bit (p .enabled) ∷ []
 
--- slot, offset and length of the name, offset and length of the summary
+-- slot, offset and length of the name, offset and length of the summary, the characters of both
 abbrev pub infoNumbers : GeneralSetting → List ℕ
-infoNumbers s = s .slot ∷ s .name .offset ∷ s .name .len ∷ s .summary .offset ∷ s .summary .len ∷ []
+infoNumbers s = s .slot ∷ s .name .offset ∷ s .name .len ∷ s .summary .offset ∷ s .summary .len ∷ s .name .characters ∷ s .summary .characters ∷ []
 
 -- a range; no answer below depends on its voice value
 abbrev pub unvoiced : (min max step : ℕ) → AmbientRange

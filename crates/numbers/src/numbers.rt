@@ -10,9 +10,10 @@ use payload::OptionByte;
 use payload::OptionCell;
 use payload::OptionFlag;
 use setting_info::GeneralSetting;
+use text::Characters;
 ghost use mathlib.Core.Path.{_≡_};
 ghost use Rattle.line_reader.specs.LineReader.{readTold};
-ghost use Rattle.numbers.specs.Numbers.{bit, byteOr256, flagOr2, chargingNumber, cellNumbers, batteryNumbers, modeNumber, noiseNumbers, reportNumbers, deviceNumbers, infoNumbers, readNumbers};
+ghost use Rattle.numbers.specs.Numbers.{bit, byteOr256, charactersOr256, flagOr2, chargingNumber, cellNumbers, batteryNumbers, modeNumber, noiseNumbers, reportNumbers, deviceNumbers, infoNumbers, readNumbers};
 
 const ABSENT: u64 = 256;
 
@@ -142,9 +143,20 @@ pub fn ranges(kind: u8, report: CapabilityReport) -> [u64; 10]
     ]
 }
 
+// A name has at most 255 bytes, so that no number of its characters is 256.
+fn characters_or(c: Characters) -> u64
+    ensures { λ r. ⌜ r ≡ charactersOr256 c ⌝ }
+{
+    match c {
+        Characters::Number(n) => n as u64,
+        Characters::NoText => ABSENT,
+    }
+}
+
 pub fn device(d: PairedDevice) -> [u64; 8]
     ensures { λ r. ⌜ r ≡ deviceNumbers d ⌝ }
 {
+    let characters = d.characters;
     [
         d.address as u64,
         d.status as u64,
@@ -153,11 +165,11 @@ pub fn device(d: PairedDevice) -> [u64; 8]
         d.detail2 as u64,
         d.name as u64,
         d.len as u64,
-        flag(d.text),
+        characters_or(characters),
     ]
 }
 
-pub fn setting_info(s: GeneralSetting) -> [u64; 5]
+pub fn setting_info(s: GeneralSetting) -> [u64; 7]
     ensures { λ r. ⌜ r ≡ infoNumbers s ⌝ }
 {
     let name = s.name;
@@ -168,6 +180,8 @@ pub fn setting_info(s: GeneralSetting) -> [u64; 5]
         name.len as u64,
         summary.offset as u64,
         summary.len as u64,
+        name.characters as u64,
+        summary.characters as u64,
     ]
 }
 

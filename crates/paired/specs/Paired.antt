@@ -7,7 +7,7 @@ use Rattle.base.specs.Outcome.{Outcome, accepted, refused, pick}
 use Rattle.base.specs.Refusal.{refusalTold}
 use Rattle.reading.specs.Items.{headed, walk, counted}
 use Rattle.reading.specs.Reading.{readingOf}
-use Rattle.text.specs.Text.{isTextOf}
+use Rattle.text.specs.Text.{charactersOf}
 use Rattle.paired.specs.declared.paired.PairedDevices.{PairedDevices}
 use Rattle.paired.specs.declared.paired.PairedDevices.the-variants.{Count, Refused}
 use Rattle.paired.specs.declared.paired.PairedDevice.{PairedDevice}
@@ -36,8 +36,8 @@ abbrev pub pairedTold : PairedDevices → Outcome ℕ
 pairedTold (Count n) = accepted n
 pairedTold (Refused r) = refusalTold r
 
--- "a lookup by index gives one device. Addresses and names are raw bytes, given by offset and length in the payload, names with
--- a yes or no for RFC 3629": the device that begins at `at`
+-- "a lookup by index gives one device. Addresses and names are raw bytes, given by offset and length in the payload"; 02, C-13:
+-- "Device lookup .. carry that number on": the device that begins at `at`
 abbrev pub deviceAt : List ℕ → ℕ → PairedDevice
 deviceAt payload at = record {
   address = at;
@@ -47,7 +47,7 @@ deviceAt payload at = record {
   detail2 = getD payload (at + 20) 0;
   name = at + 22;
   len = nameLength payload at;
-  text = isTextOf (take (nameLength payload at) (drop (at + 22) payload));
+  characters = charactersOf (take (nameLength payload at) (drop (at + 22) payload));
 }
 
 -- what the decoder tries, then 21 for an index not below the count

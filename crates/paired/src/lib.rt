@@ -1,4 +1,4 @@
-// The devices that a headset is paired with, their names as text, and the payload with both masked.
+// The devices that a headset is paired with, the characters of their names, and the payload with addresses and names masked.
 mod paired;
 
 pub use paired::PairedDevice;
@@ -7,4 +7,3 @@ pub use paired::PairedLookup;
 pub use paired::decode_paired_devices;
 pub use paired::mask_paired;
 pub use paired::paired_device;
-pub use text::is_text;

@@ -33,6 +33,8 @@ use replay::refusal;
 use replay::word;
 use setting_info::SettingInfoAnswer;
 use setting_info::SettingText;
+use text::Characters;
+use text::count_characters;
 
 pub fn reading(
     op: u8,
@@ -52,7 +54,7 @@ pub fn reading(
         b'f' => support(table, payload, records, text, k),
         b'g' => setting(payload, text, k),
         b'i' => setting_info(payload, text, k),
-        b'y' => flag(text, k, paired::is_text(payload)),
+        b'y' => characters(text, k, count_characters(payload)),
         _ => word(text, k, b"unknown"),
     }
 }
@@ -68,6 +70,13 @@ fn option_flag(text: &mut [u8], k: usize, o: OptionFlag) -> usize {
     match o {
         OptionFlag::Flag(b) => flag(text, k, b),
         OptionFlag::NoFlag => word(text, k, b"-"),
+    }
+}
+
+fn characters(text: &mut [u8], k: usize, c: Characters) -> usize {
+    match c {
+        Characters::Number(n) => number(text, k, n as u64),
+        Characters::NoText => word(text, k, b"-"),
     }
 }
 
@@ -264,11 +273,12 @@ fn lookup(payload: &[u8], index: usize, text: &mut [u8], k: usize) -> usize {
 }
 
 fn device(text: &mut [u8], k: usize, d: PairedDevice) -> usize {
+    let counted = d.characters;
     let a = number(text, k, d.address as u64);
     let b = details(text, a, d);
     let c = number(text, b, d.name as u64);
     let e = number(text, c, d.len as u64);
-    flag(text, e, d.text)
+    characters(text, e, counted)
 }
 
 fn details(text: &mut [u8], k: usize, d: PairedDevice) -> usize {
@@ -320,7 +330,7 @@ fn setting(payload: &[u8], text: &mut [u8], k: usize) -> usize {
     }
 }
 
-// The slot, and offset and length of both texts.
+// The slot, and offset, length and characters of both texts.
 fn setting_info(payload: &[u8], text: &mut [u8], k: usize) -> usize {
     match setting_info::decode_general_setting_info(payload) {
         SettingInfoAnswer::Info(s) => {
@@ -335,6 +345,7 @@ fn setting_info(payload: &[u8], text: &mut [u8], k: usize) -> usize {
 }
 
 fn setting_text(text: &mut [u8], k: usize, t: SettingText) -> usize {
-    let next = number(text, k, t.offset as u64);
-    number(text, next, t.len as u64)
+    let a = number(text, k, t.offset as u64);
+    let b = number(text, a, t.len as u64);
+    number(text, b, t.characters as u64)
 }

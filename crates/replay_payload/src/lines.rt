@@ -3,16 +3,21 @@ use crate::calls::reading;
 use crate::ranges::admits_all;
 use crate::ranges::within_all;
 use crate::strings::texts;
+use crate::sums::lengths;
+use crate::sums::pairs;
+use crate::sums::parts;
+use crate::sums::placed_parts;
+use crate::sums::values;
 use capability::AmbientRange;
 use lists::Table;
 use replay::byte_field;
 use replay::end_line;
+use replay::field;
 use replay::first;
 use replay::first_mut;
 use replay::flush;
 use replay::hex_field;
 use replay::letter;
-use replay::mix_first;
 use replay::next_line;
 use replay::number;
 use replay::number_field;
@@ -50,8 +55,9 @@ fn answer(
     match letter(input, at) {
         b'k' => number(text, k, hex_field(input, at, 1, kept) as u64),
         b'x' => change(input, at, kept, text, k),
-        b'v' => values(input, at, kept, records, scratch, text, k),
-        b'l' => lengths(input, at, kept, records, scratch, text, k),
+        b'v' | b'q' | b'l' | b's' | b'd' => {
+            number(text, k, summed(input, at, kept, records, scratch))
+        }
         b'a' => admits_all(range_of(input, at), text, k),
         b'w' => within_all(range_of(input, at), text, k),
         b't' => texts(
@@ -111,48 +117,21 @@ fn one(
     )
 }
 
-// The reading for each byte at a place.
-fn values(
-    input: &[u8],
-    at: usize,
-    kept: &mut [u8],
-    records: &mut [u8],
-    scratch: &mut [u8],
-    text: &mut [u8],
-    k: usize,
-) -> usize {
+// A case whose last field is the letter of its readings, by the sum of their answers.
+fn summed(input: &[u8], at: usize, kept: &mut [u8], records: &mut [u8], scratch: &mut [u8]) -> u64 {
     let n = number_field(input, at, 1);
     let place = number_field(input, at, 2);
-    let op = letter(input, replay::field(input, at, 3));
-    let mut sum: u64 = 0;
-    let mut b: usize = 0;
-    while b < 256 {
-        put(kept, place, (b % 256) as u8);
-        let end = reading(op, Table::One, first(kept, n), records, scratch, 0);
-        sum = mix_first(sum, scratch, end);
-        b += 1;
+    let second = letter(input, field(input, at, 2));
+    let third = letter(input, field(input, at, 3));
+    match letter(input, at) {
+        b'v' => values(third, kept, n, place, records, scratch, 0),
+        b'q' => {
+            let other = number_field(input, at, 3);
+            let fourth = letter(input, field(input, at, 4));
+            pairs(fourth, kept, n, place, other, records, scratch)
+        }
+        b'l' => lengths(second, kept, n, records, scratch),
+        b's' => parts(second, first(kept, n), records, scratch),
+        _ => placed_parts(third, first(kept, n), place, records, scratch),
     }
-    number(text, k, sum)
-}
-
-// The reading for each length below N.
-fn lengths(
-    input: &[u8],
-    at: usize,
-    kept: &[u8],
-    records: &mut [u8],
-    scratch: &mut [u8],
-    text: &mut [u8],
-    k: usize,
-) -> usize {
-    let n = number_field(input, at, 1);
-    let op = letter(input, replay::field(input, at, 2));
-    let mut sum: u64 = 0;
-    let mut len: usize = 0;
-    while len < n {
-        let end = reading(op, Table::One, first(kept, len), records, scratch, 0);
-        sum = mix_first(sum, scratch, end);
-        len += 1;
-    }
-    number(text, k, sum)
 }

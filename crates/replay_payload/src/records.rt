@@ -5,8 +5,8 @@ use lists::Table;
 use replay::decode_support;
 use replay::put;
 
-fn byte_at(pairs: &[u8], i: usize) -> u8 {
-    if i < pairs.len() { pairs[i] } else { 0 }
+pub fn byte_at(bytes: &[u8], i: usize) -> u8 {
+    if i < bytes.len() { bytes[i] } else { 0 }
 }
 
 fn records_of(pairs: &[u8]) -> [SupportFunction; 512] {

@@ -1,11 +1,13 @@
-// Whether strings are text, over all the strings with one first byte.
+// The characters of strings, over all the strings with one first byte.
 use replay::first;
 use replay::mix;
 use replay::number;
 use replay::put;
+use text::Characters;
+use text::count_characters;
 
-// The third and fourth bytes of the strings of four, round the edges of the ranges.
-fn edge(i: usize) -> u8 {
+// Bytes round the edges of the ranges of the forms' later bytes: the third and fourth of the strings of four.
+pub fn edge(i: usize) -> u8 {
     match i {
         0 => 0x00,
         1 => 0x7F,
@@ -20,8 +22,12 @@ fn edge(i: usize) -> u8 {
     }
 }
 
-fn mixed_text(sum: u64, b: bool) -> u64 {
-    if b { mix(sum, 1) } else { mix(sum, 0) }
+// A number of characters as one byte, 255 for no text; the strings here have at most four.
+fn as_byte(c: Characters) -> u8 {
+    match c {
+        Characters::Number(n) => { if n < 254 { n as u8 } else { 254 } }
+        Characters::NoText => 255,
+    }
 }
 
 // The byte `i` of those that a place is given: every byte, or those round the edges.
@@ -39,7 +45,7 @@ fn choices(at: usize, n: usize) -> usize {
 // The sum of the answers for the strings of n bytes that begin with the first `at` kept ones.
 fn strings(kept: &mut [u8], at: usize, n: usize, before: u64) -> u64 {
     if at >= n {
-        return mixed_text(before, paired::is_text(first(kept, n)));
+        return mix(before, as_byte(count_characters(first(kept, n))));
     }
     let count = choices(at, n);
     let mut sum = before;

@@ -1,4 +1,4 @@
--- 02, C-11: `decode_general_setting_info`.
+-- 02, C-11: `decode_general_setting_info`; C-13: the characters of its texts.
 use Prim.Native.Nat.{ℕ, _+_}
 use mathlib.Core.Bool.{true}
 use mathlib.Core.List.{List, []}
@@ -9,7 +9,9 @@ use Rattle.base.specs.Refusal.{refusalTold}
 use Rattle.reading.specs.Message.{kindOf, bodyAt}
 use Rattle.reading.specs.Items.{Size, headed, walk, Items}
 use Rattle.reading.specs.Reading.{readingOf}
-use Rattle.text.specs.Text.{isTextOf}
+use Rattle.text.specs.Text.{charactersOf}
+use Rattle.text.specs.declared.text.Characters.{Characters}
+use Rattle.text.specs.declared.text.Characters.the-variants.{Number, NoText}
 use Rattle.setting_info.specs.declared.setting_info.SettingText.{SettingText}
 use Rattle.setting_info.specs.declared.setting_info.GeneralSetting.{GeneralSetting}
 use Rattle.setting_info.specs.declared.setting_info.SettingInfoAnswer.{SettingInfoAnswer}
@@ -27,26 +29,30 @@ textSize = headed 0
 abbrev pub infoItems : List ℕ → Items
 infoItems payload = record { first = 4; count = 2; size = textSize; behind = 0 }
 
--- "Both texts are given by offset and length in the payload. Lengths count raw bytes": the text whose length byte stands at `at`
-abbrev pub textAt : List ℕ → ℕ → SettingText
-textAt payload at = record { offset = at + 1; len = getD payload at 0 }
+-- where the length byte of each stands
+abbrev pub nameAt : ℕ
+nameAt = 4
 
-abbrev pub nameOf : List ℕ → SettingText
-nameOf payload = textAt payload 4
+abbrev pub summaryAt : List ℕ → ℕ
+summaryAt payload = walk textSize payload 1 nameAt
 
-abbrev pub summaryOf : List ℕ → SettingText
-summaryOf payload = textAt payload (walk textSize payload 1 4)
+abbrev pub bytesAt : List ℕ → ℕ → List ℕ
+bytesAt payload at = take (getD payload at 0) (drop (at + 1) payload)
 
-abbrev pub bytesOf : List ℕ → SettingText → List ℕ
-bytesOf payload t = take (t .len) (drop (t .offset) payload)
+-- "Both texts are given by offset and length in the payload. Lengths count raw bytes"; C-13: "setting texts carry that number on"
+abbrev pub textAt : List ℕ → ℕ → ℕ → SettingText
+textAt payload at characters = record { offset = at + 1; len = getD payload at 0; characters = characters }
 
--- "23, a text outside RFC 3629"
+-- "23, a text outside RFC 3629"; else its number of characters goes on
+abbrev pub whereText : {A : Type 0} → Characters → (ℕ → Outcome A) → Outcome A
+whereText (Number n) on = on n
+whereText NoText on = refused 23 []
+
 abbrev pub checkedTexts : List ℕ → Outcome GeneralSetting
 checkedTexts p =
-    pick (isTextOf (bytesOf p (nameOf p)))
-    (pick (isTextOf (bytesOf p (summaryOf p))) (accepted (record { slot = kindOf p; name = nameOf p; summary = summaryOf p }))
-    (refused 23 []))
-    (refused 23 [])
+    whereText (charactersOf (bytesAt p nameAt)) (λ n.
+    whereText (charactersOf (bytesAt p (summaryAt p))) (λ m.
+    accepted (record { slot = kindOf p; name = textAt p nameAt n; summary = textAt p (summaryAt p) m })))
 
 -- "slot from the kind, body `00`, a second byte of at most `01`"; the texts are "tried after 19"
 unfoldable pub infoContents : List ℕ → Outcome GeneralSetting

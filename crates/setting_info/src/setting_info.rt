@@ -1,6 +1,7 @@
 // The name and the summary of the setting in a slot.
 use frame::Refusal;
-use text::is_text;
+use text::Characters;
+use text::count_characters;
 ghost use mathlib.Core.Path.{_≡_};
 ghost use Rattle.setting_info.specs.SettingInfo.{infoTold, infoOf};
 
@@ -8,10 +9,11 @@ const GS_BOOLEAN_TYPE: u8 = 0x00;
 // The last of the two string formats.
 const GS_ENUM_NAME: u8 = 0x01;
 
-// A text by its offset in the payload and its length in bytes.
+// A text by its offset in the payload, its length in bytes and its characters.
 pub struct SettingText {
     pub offset: usize,
     pub len: usize,
+    pub characters: usize,
 }
 
 pub struct GeneralSetting {
@@ -51,21 +53,23 @@ pub fn decode_general_setting_info(payload: &[u8]) -> SettingInfoAnswer
     if payload[3] > GS_ENUM_NAME {
         return SettingInfoAnswer::Refused(Refusal::OtherMessage);
     }
-    if !is_text(&payload[5..name_end]) {
+    let Characters::Number(name_characters) = count_characters(&payload[5..name_end]) else {
         return SettingInfoAnswer::Refused(Refusal::NotText);
-    }
-    if !is_text(&payload[summary..len]) {
+    };
+    let Characters::Number(summary_characters) = count_characters(&payload[summary..len]) else {
         return SettingInfoAnswer::Refused(Refusal::NotText);
-    }
+    };
     SettingInfoAnswer::Info(GeneralSetting {
         slot: payload[1],
         name: SettingText {
             offset: 5,
             len: name_len,
+            characters: name_characters,
         },
         summary: SettingText {
             offset: summary,
             len: summary_len,
+            characters: summary_characters,
         },
     })
 }

@@ -43,6 +43,25 @@ module _ (ns vs : List ℕ) (i : ℕ) where
   pub whole : i ≡ length ns → toldFrom ns vs i ≡ vs
   whole h = rw (h, drop-length ns, none-left, take-append-drop)
 
+-- two numbers, by how many fit
+module _ (a b : ℕ) where
+  pub none-told : (vs : List ℕ) → length vs ≡ 0 → told (a ∷ b ∷ []) vs ≡ vs
+  unfolding told
+  none-told [] h = refl
+  none-told (v ∷ vs) h = absurd (omega arith)
+
+  pub one-told : (vs : List ℕ) → length vs ≡ 1 → told (a ∷ b ∷ []) vs ≡ set vs 0 a
+  unfolding told
+  one-told [] h = absurd (omega arith)
+  one-told (v ∷ []) h = refl
+  one-told (v ∷ w ∷ vs) h = absurd (omega arith)
+
+  pub two-told : (vs : List ℕ) → 2 ≤ length vs → told (a ∷ b ∷ []) vs ≡ set (set vs 0 a) 1 b
+  unfolding told
+  two-told [] h = absurd (omega arith)
+  two-told (v ∷ []) h = absurd (omega arith)
+  two-told (v ∷ w ∷ vs) h = refl
+
 -- the refusals that the last arm of `refuse` is left
 abbrev pub Bare : List ℕ
 Bare = 0 ∷ 1 ∷ 2 ∷ 3 ∷ 4 ∷ 5 ∷ 6 ∷ 7 ∷ 8 ∷ 9 ∷ 10 ∷ 11 ∷ 13 ∷ 16 ∷ 17 ∷ 18 ∷ 19 ∷ 20 ∷ 21 ∷ 22 ∷ 23 ∷ []

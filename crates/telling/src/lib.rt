@@ -3,3 +3,4 @@ mod told;
 
 pub use told::refuse;
 pub use told::tell;
+pub use told::tell_two;

@@ -1,6 +1,7 @@
 // What every call tells: a status, and numbers at the front of `values`, as many as fit.
 use frame::Refusal;
 ghost use mathlib.Core.Path.{_≡_};
+ghost use mathlib.Core.List.{[], _∷_};
 ghost use Rattle.base.specs.Refusal.{listed, numberOf};
 ghost use Rattle.telling.specs.Told.{told};
 
@@ -15,6 +16,20 @@ pub fn tell(numbers: &[u64], values: &mut [u64])
         values[i] = numbers[i];
         i += 1;
     }
+}
+
+// Two numbers, as by `tell`, without a loop over as many as fit: for calls that do little else.
+pub fn tell_two(first: u64, second: u64, values: &mut [u64])
+    ensures { λ _. ⌜ now (values .exit) ≡ told (first ∷ second ∷ []) (now (values .entry)) ⌝ }
+{
+    if values.len() == 0 {
+        return;
+    }
+    values[0] = first;
+    if values.len() == 1 {
+        return;
+    }
+    values[1] = second;
 }
 
 // The refusal's number, and its values told.

@@ -1,1 +1,3 @@
 pub mod LawsText
+pub mod LawsCharacters
+pub mod CasesText

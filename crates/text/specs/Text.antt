@@ -1,11 +1,18 @@
--- 01, "Messages and decoders": RFC 3629's forms of text.
-use Prim.Native.Nat.{ℕ, _-_}
+-- 01, "Messages and decoders": RFC 3629's forms of text; 02, C-13: how many characters they are.
+use Prim.Native.Nat.{ℕ, _+_, _-_}
 use mathlib.Core.Bool.{Bool, true, false}
 use mathlib.Core.List.{List, [], _∷_}
 use lib.Dec.{leb, eqb}
 use Rattle.base.specs.Outcome.{pick}
-use Rattle.text.specs.declared.text.Place.{Place}
-use Rattle.text.specs.declared.text.Place.the-variants.{Lead, Follower, Failed}
+use Rattle.text.specs.declared.text.Characters.{Characters}
+use Rattle.text.specs.declared.text.Characters.the-variants.{Number, NoText}
+
+-- what the next byte must be: the first of a form; a follower from low to high, and then so many more; or nothing will do, since no form
+-- begins or goes on so
+pub data Place : Type 0 where
+  Lead : Place
+  Follower : (low high more : ℕ) → Place
+  Failed : Place
 
 abbrev pub inRange : ℕ → ℕ → ℕ → Bool
 inRange low high b = pick (leb low b) (leb b high) false
@@ -50,6 +57,23 @@ placeAfter p (b ∷ bs) = placeAfter (next p b) bs
 abbrev pub textFrom : Place → List ℕ → Bool
 textFrom p bytes = complete (placeAfter p bytes)
 
--- "a yes or no for RFC 3629": forms one after the other, to the end
+-- whether bytes are text by RFC 3629: forms one after the other, to the end
 abbrev pub isTextOf : List ℕ → Bool
 isTextOf bytes = textFrom Lead bytes
+
+-- a character for each form: how many begin among bytes, from a place on
+abbrev pub begun : Place → ℕ
+begun Lead = 1
+begun (Follower low high more) = 0
+begun Failed = 0
+
+unfoldable pub formsFrom : Place → List ℕ → ℕ
+formsFrom p [] = 0
+formsFrom p (b ∷ bs) = begun p + formsFrom (next p b) bs
+
+-- "the number of characters when the bytes are text by RFC 3629, and none otherwise"
+abbrev pub charactersFrom : Place → List ℕ → Characters
+charactersFrom p bytes = pick (textFrom p bytes) (Number (formsFrom p bytes)) NoText
+
+unfoldable pub charactersOf : List ℕ → Characters
+charactersOf bytes = charactersFrom Lead bytes

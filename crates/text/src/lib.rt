@@ -1,4 +1,5 @@
-// Whether bytes are text by RFC 3629.
+// How many characters bytes are, where they are text by RFC 3629.
 mod text;
 
-pub use text::is_text;
+pub use text::Characters;
+pub use text::count_characters;

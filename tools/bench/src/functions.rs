@@ -68,6 +68,7 @@ pub fn table() {
         framing(n);
     }
     decoders();
+    characters();
     for piece in [64, 4_096] {
         scanners(piece);
     }
@@ -109,8 +110,8 @@ fn rust_unpack(bytes: &[u8]) -> Result<frame::Frame, frame::FrameError> {
 }
 
 #[inline(never)]
-fn rust_is_text(bytes: &[u8]) -> bool {
-    std::str::from_utf8(bytes).is_ok()
+fn rust_characters(bytes: &[u8]) -> Option<usize> {
+    std::str::from_utf8(bytes).ok().map(|text| text.chars().count())
 }
 
 fn framing(n: usize) {
@@ -244,19 +245,47 @@ fn decoders() {
     decoder("general setting, its numbers not asked for", 7, 0, ours::general_setting, decode_general_setting_param);
     decoder("setting texts", 8, 16, ours::general_setting_info, decode_general_setting_info);
     decoder("setting texts, their numbers not asked for", 8, 0, ours::general_setting_info, decode_general_setting_info);
+}
 
+/// The characters of names of every kind, some of them no text, then of one kind each.
+fn characters() {
+    names_row("a name, beside `from_utf8` and `chars().count()`", frames::name);
+    for (kind, low, high, alphabet) in [
+        ("4 to 14 ASCII letters", 4, 14, "Alice's DESKTOP-4C3D2E Pixel 8"),
+        ("200 ASCII letters", 200, 200, "Alice's DESKTOP-4C3D2E Pixel 8"),
+        ("8 to 24 Latin letters, some with an accent", 8, 24, "Téléphone de Zoë Núñez, à François"),
+        ("8 to 24 Cyrillic letters", 8, 24, "НаушникиАлександры"),
+        ("4 to 16 Japanese letters", 4, 16, "山田さんのヘッドホン"),
+    ] {
+        let alphabet: Vec<char> = alphabet.chars().collect();
+        let name = |c: &mut Choice| (0..c.between(low, high)).map(|_| c.of(&alphabet)).collect::<String>().into();
+        names_row(&format!("a name of {kind}"), name);
+    }
+    names_row("8 to 64 random bytes", |c| {
+        let n = c.between(8, 64);
+        c.bytes(n)
+    });
+}
+
+fn names_row(kind: &str, name: impl Fn(&mut Choice) -> Vec<u8>) {
     let mut c = Choice::new(8);
-    let names: Vec<Vec<u8>> = (0..INPUTS).map(|_| frames::name(&mut c)).collect();
+    let names: Vec<Vec<u8>> = (0..INPUTS).map(|_| name(&mut c)).collect();
+    let mut values = [0; 2];
+    for name in &names {
+        ours::count_characters(name, &mut values);
+        assert_eq!((values[0] == 1).then_some(values[1] as usize), rust_characters(name));
+    }
     let times = time(
         |i| {
-            black_box(ours::is_text(black_box(&names[i])));
+            black_box(ours::count_characters(black_box(&names[i]), &mut values));
+            black_box(&values);
         },
         |i| {
-            black_box(rust_is_text(black_box(&names[i])));
+            black_box(rust_characters(black_box(&names[i])));
         },
         INPUTS,
     );
-    row("text, a name, beside `from_utf8`", times);
+    row(&format!("characters of {kind}"), times);
 }
 
 fn every_function(payload: &[u8], values: &mut [u64]) -> u8 {

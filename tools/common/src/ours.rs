@@ -134,8 +134,8 @@ pub fn general_setting_info(payload: &[u8], values: &mut [u64]) -> u8 {
     unsafe { sys::mdr_general_setting_info(payload.as_ptr(), payload.len(), values.as_mut_ptr(), values.len()) }
 }
 
-pub fn is_text(bytes: &[u8]) -> bool {
-    unsafe { sys::mdr_is_text(bytes.as_ptr(), bytes.len()) }
+pub fn count_characters(bytes: &[u8], values: &mut [u64]) -> u8 {
+    unsafe { sys::mdr_count_characters(bytes.as_ptr(), bytes.len(), values.as_mut_ptr(), values.len()) }
 }
 
 pub fn admits(min: u8, max: u8, step: u8, level: i32, values: &mut [u64]) -> u8 {

@@ -1,9 +1,9 @@
-//! Message split, the eight readings, the lookup of a paired device, masking and text beside the Rust's.
+//! Message split, the eight readings, the lookup of a paired device, masking and the characters of a text beside the Rust's.
 use crate::case::{Case, Run, Tally, fewer, hex};
 use crate::inputs::{any, content, room, setting_texts, shortest, strings, values};
 use crate::lent::{Lent, MOST_VALUES, Told, Values, left_difference, told_difference};
 use common::choice::Choice;
-use common::frames::{accepted, damage, name, support};
+use common::frames::{accepted, damage, name, paired, support};
 use common::settings::texts;
 use original::mdr::payload::{
     AmbientRange, Cell, Charging, Message, NoiseMode, PairedDevice, Reading, Table, decode_battery, decode_equalizer,
@@ -24,7 +24,7 @@ pub enum Call {
     SupportFunctions,
     GeneralSetting,
     GeneralSettingInfo,
-    IsText,
+    CountCharacters,
 }
 
 /// Those that read any payload.
@@ -120,6 +120,11 @@ fn devices(payload: &[u8]) -> Option<Vec<PairedDevice>> {
     }
 }
 
+/// How many characters bytes are, where they are text.
+fn characters(bytes: &[u8]) -> Option<u64> {
+    std::str::from_utf8(bytes).ok().map(|text| text.chars().count() as u64)
+}
+
 /// The device at an index: offsets found here, and held to the Rust's strings.
 fn device(payload: &[u8], index: usize) -> Told {
     let Some(devices) = devices(payload) else { return Told::refused(19) };
@@ -134,8 +139,20 @@ fn device(payload: &[u8], index: usize) -> Told {
     assert_eq!(String::from_utf8_lossy(&payload[address..address + 17]), device.address);
     assert_eq!(String::from_utf8_lossy(bytes), device.name);
     let [a, b, c] = device.detail.map(u64::from);
-    let text = std::str::from_utf8(bytes).is_ok();
-    Told::accepted(&[address as u64, device.status.into(), a, b, c, name as u64, len as u64, text.into()])
+    let characters = characters(bytes).unwrap_or(ABSENT);
+    Told::accepted(&[address as u64, device.status.into(), a, b, c, name as u64, len as u64, characters])
+}
+
+/// What a setting is called, and the characters of both texts.
+fn setting_info(payload: &[u8]) -> Told {
+    match texts(payload) {
+        Ok(read @ [_, name, name_len, summary, summary_len]) => {
+            let counted = |at: usize, len: usize| characters(&payload[at..at + len]).expect("an accepted text");
+            let both = [counted(name, name_len), counted(summary, summary_len)];
+            Told::accepted(&[&read.map(|n| n as u64)[..], &both].concat())
+        }
+        Err(number) => Told::refused(number),
+    }
 }
 
 impl Payload {
@@ -240,14 +257,15 @@ impl Case for Payload {
             }
             Call::GeneralSetting => self.reading(tally, "general_setting", decode_general_setting_param, ours::general_setting),
             Call::GeneralSettingInfo => {
-                let expected = texts(&self.bytes).map_or_else(Told::refused, |texts| Told::accepted(&texts.map(|n| n as u64)));
-                self.compare(tally, "general_setting_info", expected, ours::general_setting_info)
+                self.compare(tally, "general_setting_info", setting_info(&self.bytes), ours::general_setting_info)
             }
             Call::SupportFunctions => self.support_functions(tally),
-            Call::IsText => {
-                let (expected, got) = (std::str::from_utf8(&self.bytes).is_ok(), ours::is_text(&self.bytes));
-                tally.add("is_text", if expected { 0 } else { b'N' });
-                (expected != got).then(|| format!("expected: {expected}\nours:     {got}"))
+            Call::CountCharacters => {
+                let expected = characters(&self.bytes).map_or(vec![0], |n| vec![1, n]);
+                tally.add("count_characters", if expected[0] == 1 { 0 } else { b'N' });
+                let mut values = Values::new(self.values);
+                let status = ours::count_characters(&self.bytes, values.lend());
+                told_difference(&Told::accepted(&expected), status, &values)
             }
         }
     }
@@ -301,7 +319,7 @@ pub fn exhaustive(run: &mut Run) {
         for call in READINGS {
             run.case(&Payload::of(call, bytes.clone()));
         }
-        run.case(&Payload::of(Call::IsText, bytes));
+        run.case(&Payload::of(Call::CountCharacters, bytes));
     }
     // Every kind with every length up to 24, over some contents.
     let mut c = Choice::new(3);
@@ -370,22 +388,38 @@ pub fn exhaustive(run: &mut Run) {
     for first in [0x00, 0x80, 0xC1, 0xC2, 0xDF, 0xE0, 0xE1, 0xEC, 0xED, 0xEE, 0xEF, 0xF0, 0xF1, 0xF3, 0xF4, 0xF5, 0xFF] {
         for second in 0..=255 {
             for rest in [strings(&edges, 1), strings(&edges, 2)].concat() {
-                run.case(&Payload::of(Call::IsText, [&[first, second], &rest[..]].concat()));
+                run.case(&Payload::of(Call::CountCharacters, [&[first, second], &rest[..]].concat()));
             }
         }
         for second in edges {
             for rest in [strings(&edges, 0), strings(&edges, 1), strings(&edges, 2)].concat() {
-                in_settings(run, &[&[first, second], &rest[..]].concat());
+                in_payloads(run, &[&[first, second], &rest[..]].concat());
             }
         }
     }
     for letter in (0..=0x10_FFFF).step_by(0x40).filter_map(char::from_u32) {
-        in_settings(run, letter.to_string().as_bytes());
+        in_payloads(run, letter.to_string().as_bytes());
+    }
+    // Letters behind and before plain ones, cut at every byte, in numbers that fit and that do not.
+    for letter in ["a", "é", "ヘ", "🎧"] {
+        for n in 0..=70 {
+            let text = ["n".repeat(n), letter.into(), "n".repeat(70 - n), letter.into()].concat();
+            for len in 0..=text.len() {
+                let bytes = text.as_bytes()[..len].to_vec();
+                run.case(&Payload { values: len % 4, ..Payload::of(Call::CountCharacters, bytes) });
+            }
+            in_payloads(run, text.as_bytes());
+        }
+        for n in 0..=255 / letter.len() {
+            in_payloads(run, letter.repeat(n).as_bytes());
+        }
     }
 }
 
-/// These bytes as a setting's name, and as its summary; and in a payload that has another form, which is found first.
-fn in_settings(run: &mut Run, text: &[u8]) {
+/// These bytes as a device's name; as a setting's name, and as its summary; and in a payload that has another form, which is found first.
+fn in_payloads(run: &mut Run, text: &[u8]) {
+    let device = paired(&mut Choice::new(text.len() as u64), 0x37, &[b"Al".to_vec(), text.to_vec()]);
+    run.case(&Payload { index: 1, ..Payload::of(Call::PairedDevice, device) });
     run.case(&Payload::of(Call::GeneralSettingInfo, setting_texts(text, b"Al")));
     run.case(&Payload::of(Call::GeneralSettingInfo, setting_texts("é".as_bytes(), text)));
     run.case(&Payload::of(Call::GeneralSettingInfo, [setting_texts(text, text), vec![0]].concat()));
@@ -438,7 +472,7 @@ pub fn random_text(run: &mut Run, c: &mut Choice) {
         bytes = any(c);
     }
     if bytes.len() <= 255 {
-        in_settings(run, &bytes);
+        in_payloads(run, &bytes);
     }
-    run.case(&Payload::of(Call::IsText, bytes));
+    run.case(&Payload { values: values(c), ..Payload::of(Call::CountCharacters, bytes) });
 }

@@ -1,4 +1,4 @@
-//! Cases for `payload`: the Rust's `Message::split`, eight decoders, `AmbientRange` and `EqShape`, and its `from_utf8`.
+//! Cases for `payload`: the Rust's `Message::split`, eight decoders, `AmbientRange` and `EqShape`, and its `from_utf8` and `chars`.
 use crate::text::{Choice, List, field, lent, rule, shown, sum};
 use original::mdr::payload::{
     AmbientRange, Cell, Charging, EqShape, GeneralSetting, Message, NoiseMode, Reading, Table, decode_battery, decode_equalizer,
@@ -33,12 +33,17 @@ fn flag(b: bool) -> String {
     word(if b { "yes" } else { "no" })
 }
 
-fn option(o: Option<u8>) -> String {
+fn option(o: Option<impl std::fmt::Display>) -> String {
     o.map_or(word("-"), word)
 }
 
 fn option_flag(o: Option<bool>) -> String {
     o.map_or(word("-"), flag)
+}
+
+/// How many characters bytes are, where they are text.
+fn characters(bytes: &[u8]) -> Option<usize> {
+    std::str::from_utf8(bytes).ok().map(|text| text.chars().count())
 }
 
 fn cell(c: Option<Cell>) -> String {
@@ -79,7 +84,7 @@ fn reading(letter: char, table: Table, payload: &[u8], m: usize) -> String {
             _ => "refused 19 ".into(),
         },
         'i' => setting_info(payload),
-        'y' => flag(std::str::from_utf8(payload).is_ok()),
+        'y' => option(characters(payload)),
         _ => unreachable!("no such reading"),
     }
 }
@@ -157,7 +162,7 @@ fn devices(payload: &[u8]) -> String {
         out += &d.detail.map(word).concat();
         out += &word(name);
         out += &word(len);
-        out += &flag(std::str::from_utf8(bytes).is_ok());
+        out += &option(characters(bytes));
         at = name + len;
     }
     assert_eq!(at + 1, payload.len());
@@ -187,8 +192,9 @@ fn support(table: Table, payload: &[u8], m: usize) -> String {
 
 /// OURS: both texts are offsets in the payload, and refusal 23 where one is none.
 fn setting_info(payload: &[u8]) -> String {
+    let text = |at: usize, len: usize| word(at) + &word(len) + &option(characters(&payload[at..at + len]));
     match common::settings::texts(payload) {
-        Ok(texts) => texts.map(word).concat(),
+        Ok([slot, name, name_len, summary, summary_len]) => word(slot) + &text(name, name_len) + &text(summary, summary_len),
         Err(n) => format!("refused {n} "),
     }
 }
@@ -239,11 +245,51 @@ impl Session {
         self.list.add(format!("v {n} {at} {letter}"), total.to_string());
     }
 
+    /// Bytes round the edges at a place, and every byte at another.
+    fn pairs(&mut self, letter: char, n: usize, edges: usize, at: usize) {
+        let mut total = 0;
+        for edge in EDGES {
+            self.kept[edges] = edge;
+            for b in 0..=255 {
+                self.kept[at] = b;
+                total = sum(total, reading(letter, Table::One, &self.kept[..n], 512).as_bytes());
+            }
+        }
+        self.list.add(format!("q {n} {edges} {at} {letter}"), total.to_string());
+    }
+
     /// Every length below `n`.
     fn lengths(&mut self, letter: char, n: usize) {
         let answers = |t, len| sum(t, reading(letter, Table::One, &self.kept[..len], 512).as_bytes());
         let total = (0..n).fold(0, answers);
         self.list.add(format!("l {n} {letter}"), total.to_string());
+    }
+
+    /// Every part of a string.
+    fn parts(&mut self, letter: char, bytes: &[u8]) {
+        self.keep(bytes);
+        let answers = |t, part: &[u8]| sum(t, reading(letter, Table::One, part, 512).as_bytes());
+        let total = parts(bytes).fold(0, answers);
+        self.list.add(format!("s {} {letter}", bytes.len()), total.to_string());
+    }
+
+    /// A payload with every part of a text in the text's place.
+    fn placed_parts(&mut self, place: &Place, text: &[u8]) {
+        let p = place.with(text);
+        self.keep(&p);
+        let answers = |t, part: &[u8]| sum(t, reading(place.letter, Table::One, &place.with(part), 512).as_bytes());
+        let total = parts(text).fold(0, answers);
+        self.list.add(format!("d {} {} {}", p.len(), place.head.len(), place.letter), total.to_string());
+    }
+
+    /// Every byte at every place of the text in a payload.
+    fn damaged(&mut self, place: &Place, text: &[u8]) {
+        let p = place.with(text);
+        self.keep(&p);
+        for at in place.at()..place.at() + text.len() {
+            self.values(place.letter, p.len(), at);
+            self.change(at, p[at]);
+        }
     }
 
     /// A payload of its own length, one byte less and one more.
@@ -260,6 +306,35 @@ impl Session {
             self.keep(bytes);
             self.values(letter, bytes.len(), at);
         }
+    }
+}
+
+/// The parts of a string, by where they begin and then by their length, save the empty ones.
+fn parts(bytes: &[u8]) -> impl Iterator<Item = &[u8]> {
+    (0..bytes.len()).flat_map(move |from| (from + 1..=bytes.len()).map(move |end| &bytes[from..end]))
+}
+
+/// A payload with room for a text: what stands before its length byte, what stands behind it, and the letter of its reading.
+struct Place {
+    letter: char,
+    head: Vec<u8>,
+    tail: Vec<u8>,
+}
+
+impl Place {
+    /// In a payload whose text is empty, its length byte at a place.
+    fn new(letter: char, p: &[u8], at: usize) -> Place {
+        assert_eq!(p[at], 0);
+        Place { letter, head: p[..at].into(), tail: p[at + 1..].into() }
+    }
+
+    fn with(&self, text: &[u8]) -> Vec<u8> {
+        [&self.head, &[text.len() as u8][..], text, &self.tail].concat()
+    }
+
+    /// Where the text begins.
+    fn at(&self) -> usize {
+        self.head.len() + 1
     }
 }
 
@@ -537,13 +612,12 @@ fn setting_texts(s: &mut Session) {
             names(s, &b"abc"[..more], letter.as_bytes());
         }
     }
-    text_edges(s);
     damaged_texts(s);
 }
 
 /// Summaries of this front and up to as many letters as fit, behind a short and a long name, cut at every byte and with bytes behind.
 fn summaries(s: &mut Session, front: &[u8], letter: &[u8]) {
-    let summary = [front, &letter.repeat((255 - front.len()) / letter.len())].concat();
+    let summary = filled(front, letter, 255);
     for name in [&b"Al"[..], &[b'n'; 255]] {
         s.keep(&info(0xD1, 0, name, &summary));
         for n in (front.len()..=summary.len()).step_by(letter.len()) {
@@ -576,31 +650,44 @@ const FIRSTS: [u8; 20] = [
 ];
 const EDGES: [u8; 10] = [0x00, 0x7F, 0x80, 0x8F, 0x90, 0x9F, 0xA0, 0xBF, 0xC0, 0xFF];
 
-/// All of one and two bytes, and of three and four round the edges with every last byte, as name and as summary.
-fn text_edges(s: &mut Session) {
-    let every: Vec<u8> = (0..=255).collect();
+/// A device's name, the first and the last of two, and a setting's name and summary.
+fn places() -> [Place; 4] {
+    let mut c = Choice::new(25);
     let other = LETTERS[1].as_bytes();
-    for n in 1..=4 {
-        let sets: [&[u8]; 3] = match n {
-            1 => [&[0], &[0], &[0]],
-            2 => [&every, &[0], &[0]],
-            3 => [&FIRSTS, &EDGES, &[0]],
-            _ => [&FIRSTS[12..], &EDGES, &[0x7F, 0x80, 0xBF, 0xC0]],
-        };
-        for (at, p) in [(5, info(0xD1, 0, &[0; 4][..n], other)), (8, info(0xD1, 0, other, &[0; 4][..n]))] {
-            s.keep(&p);
-            for &a in sets[0] {
-                for &b in sets[1] {
-                    for &d in sets[2] {
-                        for (i, &byte) in [a, b, d][..n - 1].iter().enumerate() {
-                            if s.kept[at + i] != byte {
-                                s.change(at + i, byte);
-                            }
-                        }
-                        s.values('i', p.len(), at + n - 1);
-                    }
-                }
-            }
+    [
+        Place::new('p', &paired_payload(&mut c, &[b"", b"Al"]), 24),
+        Place::new('p', &paired_payload(&mut c, &[b"Al", b""]), 48),
+        Place::new('i', &info(0xD1, 0, b"", other), 4),
+        Place::new('i', &info(0xD1, 0, other, b""), 7),
+    ]
+}
+
+/// All of one and two bytes, and of three and four round the edges with every last byte.
+fn text_edges(s: &mut Session, place: &Place) {
+    let (letter, at) = (place.letter, place.at());
+    let keep = |s: &mut Session, n: usize| {
+        let p = place.with(&[0; 4][..n]);
+        s.keep(&p);
+        p.len()
+    };
+    let len = keep(s, 1);
+    s.values(letter, len, at);
+    let len = keep(s, 2);
+    for first in 0..=255 {
+        s.change(at, first);
+        s.values(letter, len, at + 1);
+    }
+    let len = keep(s, 3);
+    for first in FIRSTS {
+        s.change(at, first);
+        s.pairs(letter, len, at + 1, at + 2);
+    }
+    let len = keep(s, 4);
+    for first in FIRSTS {
+        s.change(at, first);
+        for second in EDGES {
+            s.change(at + 1, second);
+            s.pairs(letter, len, at + 2, at + 3);
         }
     }
 }
@@ -621,7 +708,72 @@ fn damaged_texts(s: &mut Session) {
     }
 }
 
+/// The first and the last letter of each row, all of these, each two and three letters of all lengths, and what is no text.
+fn forms() -> Vec<Vec<u8>> {
+    let mut out: Vec<Vec<u8>> = ROWS.chars().map(|c| c.to_string().into()).collect();
+    out.push(ROWS.into());
+    for a in LETTERS {
+        for b in LETTERS {
+            out.push([a, b].concat().into());
+            out.extend(LETTERS.map(|c| [a, b, c].concat().into()));
+        }
+    }
+    out.extend(NAMES[6..].iter().map(|&name| name.into()));
+    out
+}
+
+/// Up to `n` bytes: this front and as many letters as fit.
+fn filled(front: &[u8], letter: &[u8], n: usize) -> Vec<u8> {
+    [front, &letter.repeat((n - front.len()) / letter.len())].concat()
+}
+
+/// Texts cut at every byte, behind and before runs of up to 20 letters of one byte: ours goes by blocks of eight.
+fn joined_texts(s: &mut Session) {
+    let run = [b'a'; 20];
+    let places = places();
+    for form in forms() {
+        let text = [&run[..], &form, &run].concat();
+        s.parts('y', &text);
+        for place in &places {
+            s.placed_parts(place, &text);
+        }
+    }
+    for a in LETTERS {
+        for b in LETTERS {
+            for n in 1..=run.len() {
+                s.parts('y', &[a.as_bytes(), &run[..n], b.as_bytes()].concat());
+            }
+        }
+    }
+    let joined = [&run[..9], LETTERS.concat().as_bytes(), &run[..9]].concat();
+    s.sweep('y', &joined);
+    for place in &places {
+        s.damaged(place, &joined);
+        text_edges(s, place);
+    }
+}
+
+/// Names of 255 bytes, which are as long as they get, and longer strings.
+fn long_texts(s: &mut Session) {
+    let [device, ..] = places();
+    for letter in LETTERS.map(str::as_bytes) {
+        for more in 0..letter.len() {
+            let text = filled(&b"abc"[..more], letter, 255);
+            s.parts('y', &text);
+            s.edges('p', &device.with(&text));
+            if text.len() == 255 {
+                s.placed_parts(&device, &text);
+            }
+        }
+        s.keep(&filled(b"", letter, 1_000));
+        s.lengths('y', 1_001);
+    }
+}
+
 fn texts(s: &mut Session) {
+    s.read('y', 0);
+    joined_texts(s);
+    long_texts(s);
     // Strings cut at every byte.
     let mut c = Choice::new(22);
     for _ in 0..40 {
@@ -646,8 +798,9 @@ fn texts(s: &mut Session) {
             for &b in sets[0] {
                 for &d in sets[1] {
                     for &e in sets[2] {
-                        let text = std::str::from_utf8(&[first, b, d, e][..n]).is_ok();
-                        total = sum(total, &[u8::from(text)]);
+                        // 255 is no text.
+                        let number = characters(&[first, b, d, e][..n]).map_or(255, |n| n as u8);
+                        total = sum(total, &[number]);
                     }
                 }
             }

@@ -10,4 +10,4 @@ device-spec = tie.close
     (λ c. search needs)
     (λ c. search needs)
     (λ c κs. search needs)
-    (λ c. rw (c .flag .ensures)))
+    (λ c. rw (c .characters-or .ensures)))

@@ -25,4 +25,4 @@ device-at-spec =
     (λ c. search needs)
     (λ c. search needs)
     (λ c. search needs)
-    (λ c. simp (c .before .before .before .before .is-text .ensures, add-sub-cancel-left)))
+    (λ c. simp (c .before .before .before .before .count-characters .ensures, add-sub-cancel-left)))

@@ -10,9 +10,10 @@ use Rattle.replay_payload.proofs.strings.+strings.Lts-strings as string
 use Rattle.replay.proofs.put.Reads as put-reads
 use Rattle.replay.proofs.first.Reads as first-reads
 use Rattle.replay_payload.proofs.strings.choices.Reads as choices-reads
-use Rattle.replay_payload.proofs.strings.mixed_text.Reads as mixed-text-reads
+use Rattle.replay_payload.proofs.strings.as_byte.Reads as as-byte-reads
 use Rattle.replay_payload.proofs.strings.tried.Reads as tried-reads
-use Rattle.text.proofs.is_text.Reads as is-text-reads
+use Rattle.replay.proofs.mix.Reads as mix-reads
+use Rattle.text.proofs.count_characters.Reads as count-characters-reads
 use Rattle.replay_payload.proofs.strings.+strings.{statement}
 use Rattle.replay_payload.proofs.strings.+strings.Tie.{close}
 
@@ -36,10 +37,12 @@ pub +strings-spec : {M : Type 1} → statement M
 +strings-spec = close μ-strings (λ t. strings-lts.spec (
   first-reads.Asked,
   first-reads.Learnt,
-  is-text-reads.Asked,
-  is-text-reads.Learnt,
-  mixed-text-reads.Asked,
-  mixed-text-reads.Learnt,
+  count-characters-reads.Asked,
+  count-characters-reads.Learnt,
+  as-byte-reads.Asked,
+  as-byte-reads.Learnt,
+  mix-reads.Asked,
+  mix-reads.Learnt,
   choices-reads.Asked,
   choices-reads.Learnt,
   tried-reads.Asked,
@@ -53,6 +56,7 @@ pub +strings-spec : {M : Type 1} → statement M
     strings.Post
     strings-Inv-loop
     strings-μ-loop
+    (λ c κs. search needs)
     (λ c κs. search needs)
     (λ c κs. search needs)
     (λ c κs. search needs)

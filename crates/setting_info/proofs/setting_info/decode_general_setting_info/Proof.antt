@@ -3,11 +3,11 @@ use mathlib.Core.Path.{_≡_, sym, _∙_}
 use native.Mathlib.Nat.{add-sub-cancel-left}
 use native.Mathlib.Omega.{arith}
 use lib.ListN.{length, getD}
-use Rattle.text.specs.Text.{isTextOf}
+use Rattle.text.specs.Text.{charactersOf}
 use borrow.Author.Needs.{needs}
-use borrow.Author.Tests.{eq-eqb, ne-eqb, le-leb, lt-leb, not-true, not-false}
+use borrow.Author.Tests.{eq-eqb, ne-eqb, le-leb, lt-leb}
 use Rattle.reading.proofs.LawsReading.{read-short}
-use Rattle.setting_info.specs.SettingInfo.{nameOf, summaryOf, bytesOf, checkedTexts, infoContents, infoOf}
+use Rattle.setting_info.specs.SettingInfo.{nameAt, summaryAt, bytesAt, checkedTexts, infoContents, infoOf}
 use Rattle.setting_info.proofs.LawsSettingInfo.{info-unfit, info-fits, summary-place}
 use Rattle.setting_info.proofs.setting_info.decode_general_setting_info.Statement.{statement}
 use Rattle.setting_info.proofs.setting_info.decode_general_setting_info.Tie as tie
@@ -42,24 +42,24 @@ formed : (c : tie.Else6) → let p = c .before .before .before .before .before .
 unfolding infoContents
 formed c = rw (fits (c .before .before .before .before), eq-eqb _ _ (c .before .before .if5 .left), le-leb _ _ (c .if6 .left))
 
-name-text : (c : tie.After-is-text) → let p = c .before .before .before .before .before .before .before .before .before .before .before .before .before .args .payload .now in isTextOf (bytesOf p (nameOf p)) ≡ c .is-text .result
-name-text c = sym (rw (add-sub-cancel-left) at (c .is-text .ensures))
+name-told : (c : tie.After-count-characters) → let p = c .before .before .before .before .before .before .before .before .before .before .before .before .before .args .payload .now in charactersOf (bytesAt p nameAt) ≡ c .count-characters .result
+name-told c = sym (rw (add-sub-cancel-left) at (c .count-characters .ensures))
 
-summary-text : (c : tie.After-is-text2) → let p = c .before .before .before .before .before .before .before .before .before .before .before .before .before .before .before .before .args .payload .now in isTextOf (bytesOf p (summaryOf p)) ≡ c .is-text2 .result
-summary-text c =
-    let p = c .before .before .before .before .before .before .before .before .before .before .before .before .before .before .before .before .args .payload .now in
-    let e : length p - (5 + getD p 4 0 + 1) ≡ getD p (5 + getD p 4 0) 0 = c .before .before .before .before .before .before .before .before .before .if4 .left in
-    rw (summary-place p) (sym (rw e at (c .is-text2 .ensures)))
+summary-told : (c : tie.After-count-characters2) → let p = c .before .before .before .before .before .before .before .before .before .before .before .before .before .before .before .before .before .before .args .payload .now in charactersOf (bytesAt p (summaryAt p)) ≡ c .count-characters2 .result
+summary-told c =
+    let p = c .before .before .before .before .before .before .before .before .before .before .before .before .before .before .before .before .before .before .args .payload .now in
+    let e : length p - (5 + getD p 4 0 + 1) ≡ getD p (5 + getD p 4 0) 0 = c .before .before .before .before .before .before .before .before .before .before .before .if4 .left in
+    rw (summary-place p) (sym (rw e at (c .count-characters2 .ensures)))
 
 returns-7 : tie.Need-returns-7
-returns-7 c = rw (formed (c .before .before .before), name-text (c .before) ∙ not-true _ (c .if7 .taken))
+returns-7 c = rw (formed (c .before .before .before .before), name-told (c .before .before) ∙ c .enum-told .given .1)
 
 returns-8 : tie.Need-returns-8
-returns-8 c = rw (formed (c .before .before .before .before .before .before), name-text (c .before .before .before .before) ∙ not-false _ (c .before .before .before .if7 .left), summary-text (c .before) ∙ not-true _ (c .if8 .taken))
+returns-8 c = rw (formed (c .before .before .before .before .before .before .before .before .before), name-told (c .before .before .before .before .before .before .before) ∙ c .before .before .before .before .before .name-characters .given .1, summary-told (c .before .before) ∙ c .enum-told2 .given .1)
 
 returns-9 : tie.Need-returns-9
 returns-9 c =
-    rw (formed (c .before .before .before .before .before .before .before), name-text (c .before .before .before .before .before) ∙ not-false _ (c .before .before .before .before .if7 .left), summary-text (c .before .before) ∙ not-false _ (c .before .if8 .left), summary-place)
+    rw (formed (c .before .before .before .before .before .before .before .before .before .before .before), name-told (c .before .before .before .before .before .before .before .before .before) ∙ c .before .before .before .before .before .before .before .name-characters .given .1, summary-told (c .before .before .before .before) ∙ c .before .before .summary-characters .given .1, summary-place)
 
 pub decode-general-setting-info-spec : {M : Type 1} → statement M
 decode-general-setting-info-spec =
@@ -84,11 +84,15 @@ decode-general-setting-info-spec =
     (λ c. search needs)
     (λ c. search needs)
     (λ c κs. search needs)
+    (λ c. search needs)
+    (λ c. search needs)
     returns-7
     (λ c. search needs)
     (λ c. search needs)
     (λ c. search needs)
     (λ c κs. search needs)
+    (λ c. search needs)
+    (λ c. search needs)
     returns-8
     (λ c. search needs)
     returns-9)
