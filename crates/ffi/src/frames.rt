@@ -1,15 +1,13 @@
 // Frames.
+use answers::header_told;
+use answers::written_told;
 use frame::DataType;
-use frame::Unpacked;
-use frame::Written;
-use telling::refuse;
-use telling::tell;
 ghost use mathlib.Core.Path.{_≡_};
 ghost use Rattle.base.specs.DataType.{fromWire};
 ghost use Rattle.base.specs.Sum.{checksumOf};
-ghost use Rattle.base.specs.Writing.{writeCall, writtenTold};
+ghost use Rattle.base.specs.Writing.{writeCall};
 ghost use Rattle.escaping.specs.Escaping.{escapeOf, unescapeCall};
-ghost use Rattle.framing.specs.Framing.{packCall, ackCall, unpackCall, unpackedTold};
+ghost use Rattle.framing.specs.Framing.{packCall, ackCall, unpackCall};
 ghost use Rattle.heading.specs.Heading.{headerRead};
 ghost use Rattle.telling.specs.Told.{statusOf, numbersOf, told, only};
 ghost use Rattle.numbers.specs.Numbers.{typeNumber, headerNumbers};
@@ -45,28 +43,13 @@ pub extern "C" fn mdr_checksum(bytes: &[u8]) -> u8
     frame::checksum(bytes)
 }
 
-// The length of what was written.
-fn written(w: Written, values: &mut [u64]) -> u8
-    ensures { λ r. ⌜ r ≡ statusOf (writtenTold w) ⌝ }
-    ensures { λ _. ⌜ now (values .exit) ≡ told (numbersOf only (writtenTold w)) (now (values .entry)) ⌝ }
-{
-    match w {
-        Written::Bytes(n) => {
-            let numbers = [n as u64];
-            tell(&numbers, values);
-            0
-        }
-        Written::Refused(r) => refuse(r, values),
-    }
-}
-
 #[no_mangle]
 pub extern "C" fn mdr_escape(src: &[u8], out: &mut [u8], values: &mut [u64]) -> u8
     ensures { λ r. ⌜ r ≡ statusOf (writeCall (escapeOf (now (src .entry))) (now (out .entry)) .answer) ⌝ }
     ensures { λ _. ⌜ now (values .exit) ≡ told (numbersOf only (writeCall (escapeOf (now (src .entry))) (now (out .entry)) .answer)) (now (values .entry)) ⌝ }
     ensures { λ _. ⌜ now (out .exit) ≡ writeCall (escapeOf (now (src .entry))) (now (out .entry)) .out ⌝ }
 {
-    written(frame::escape(src, out), values)
+    written_told(frame::escape(src, out), values)
 }
 
 #[no_mangle]
@@ -75,7 +58,7 @@ pub extern "C" fn mdr_unescape(src: &[u8], out: &mut [u8], values: &mut [u64]) -
     ensures { λ _. ⌜ now (values .exit) ≡ told (numbersOf only (unescapeCall (now (src .entry)) (now (out .entry)) .answer)) (now (values .entry)) ⌝ }
     ensures { λ _. ⌜ now (out .exit) ≡ unescapeCall (now (src .entry)) (now (out .entry)) .out ⌝ }
 {
-    written(frame::unescape(src, out), values)
+    written_told(frame::unescape(src, out), values)
 }
 
 #[no_mangle]
@@ -90,7 +73,7 @@ pub extern "C" fn mdr_pack(
     ensures { λ _. ⌜ now (values .exit) ≡ told (numbersOf only (packCall (fromWire «data_type») seq (now (payload .entry)) (now (out .entry)) .answer)) (now (values .entry)) ⌝ }
     ensures { λ _. ⌜ now (out .exit) ≡ packCall (fromWire «data_type») seq (now (payload .entry)) (now (out .entry)) .out ⌝ }
 {
-    written(
+    written_told(
         frame::pack(DataType::from_wire(data_type), seq, payload, out),
         values,
     )
@@ -102,26 +85,7 @@ pub extern "C" fn mdr_ack(seq: u8, out: &mut [u8], values: &mut [u64]) -> u8
     ensures { λ _. ⌜ now (values .exit) ≡ told (numbersOf only (ackCall seq (now (out .entry)) .answer)) (now (values .entry)) ⌝ }
     ensures { λ _. ⌜ now (out .exit) ≡ ackCall seq (now (out .entry)) .out ⌝ }
 {
-    written(frame::ack(seq, out), values)
-}
-
-// A frame's type, sequence and payload length.
-fn header_told(u: Unpacked, values: &mut [u64]) -> u8
-    ensures { λ r. ⌜ r ≡ statusOf (unpackedTold u) ⌝ }
-    ensures { λ _. ⌜ now (values .exit) ≡ told (numbersOf headerNumbers (unpackedTold u)) (now (values .entry)) ⌝ }
-{
-    match u {
-        Unpacked::Frame {
-            data_type,
-            seq,
-            len,
-        } => {
-            let numbers = [data_type.to_wire() as u64, seq as u64, len as u64];
-            tell(&numbers, values);
-            0
-        }
-        Unpacked::Refused(r) => refuse(r, values),
-    }
+    written_told(frame::ack(seq, out), values)
 }
 
 #[no_mangle]

@@ -1,4 +1,5 @@
 // The readings of a payload, and what stands beside them.
+use answers::characters_told;
 use capability::Admitted;
 use capability::AmbientRange;
 use capability::CapabilityAnswer;
@@ -27,8 +28,6 @@ use payload::Split;
 use setting_info::SettingInfoAnswer;
 use telling::refuse;
 use telling::tell;
-use telling::tell_two;
-use text::Characters;
 ghost use mathlib.Core.Path.{_≡_};
 ghost use lib.ListN.{length};
 ghost use Rattle.reading.specs.Message.{splitOf};
@@ -249,17 +248,8 @@ pub extern "C" fn mdr_count_characters(bytes: &[u8], values: &mut [u64]) -> u8
     ensures { λ r. ⌜ r ≡ 0 ⌝ }
     ensures { λ _. ⌜ now (values .exit) ≡ told (characterNumbers (charactersOf (now (bytes .entry)))) (now (values .entry)) ⌝ }
 {
-    match text::count_characters(bytes) {
-        Characters::Number(n) => {
-            tell_two(1, n as u64, values);
-            0
-        }
-        Characters::NoText => {
-            let none = [0];
-            tell(&none, values);
-            0
-        }
-    }
+    characters_told(text::count_characters(bytes), values);
+    0
 }
 
 // No range's answer depends on its voice value, so none is asked for.

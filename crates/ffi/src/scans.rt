@@ -1,19 +1,17 @@
 // The scanner. Its state is a struct that the caller keeps and lends.
-use scanner::Found;
+use answers::find_told;
+use answers::sight_told;
+use answers::take_told;
 use scanner::OpenAnswer;
 use scanner::PushAnswer;
 use scanner::Scanner;
-use scanner::Sight;
 use scanner::SkipAnswer;
-use scanner::TakeAnswer;
-use telling::refuse;
-use telling::tell;
 ghost use mathlib.Core.Path.{_≡_};
 ghost use Rattle.held.specs.Search.{sightOf};
 ghost use Rattle.scanner.specs.Scanner.{openCall, openTold, pushCall, pushTold};
-ghost use Rattle.scanner.specs.Finding.{findCall, foundTold};
+ghost use Rattle.scanner.specs.Finding.{findCall};
 ghost use Rattle.scanner.specs.Skipping.{skipCall, skipTold};
-ghost use Rattle.scanner.specs.Taking.{takeCall, takeTold};
+ghost use Rattle.scanner.specs.Taking.{takeCall};
 ghost use Rattle.telling.specs.Told.{statusOf, numbersOf, told};
 ghost use Rattle.numbers.specs.Numbers.{bitNumbers, spotNumbers, sightNumbers};
 
@@ -75,25 +73,6 @@ pub extern "C" fn mdr_push(scanner: &mut Scanner, store: &mut [u8], piece: &[u8]
     push_status(scanner.push(store, piece))
 }
 
-fn find_told(answer: Found, values: &mut [u64]) -> u8
-    ensures { λ r. ⌜ r ≡ statusOf (foundTold answer) ⌝ }
-    ensures { λ _. ⌜ now (values .exit) ≡ told (numbersOf spotNumbers (foundTold answer)) (now (values .entry)) ⌝ }
-{
-    match answer {
-        Found::At { at, len } => {
-            let numbers = [1, at as u64, len as u64];
-            tell(&numbers, values);
-            0
-        }
-        Found::Nothing => {
-            let numbers = [0];
-            tell(&numbers, values);
-            0
-        }
-        Found::Refused(r) => refuse(r, values),
-    }
-}
-
 fn found(scanner: Scanner, store: &[u8], values: &mut [u64]) -> u8
     ensures { λ r. ⌜ r ≡ statusOf (findCall scanner (now (store .entry))) ⌝ }
     ensures { λ _. ⌜ now (values .exit) ≡ told (numbersOf spotNumbers (findCall scanner (now (store .entry)))) (now (values .entry)) ⌝ }
@@ -109,25 +88,6 @@ pub extern "C" fn mdr_find(scanner: &Scanner, store: &[u8], values: &mut [u64]) 
     found(*scanner, store, values)
 }
 
-fn take_told(answer: TakeAnswer, values: &mut [u64]) -> u8
-    ensures { λ r. ⌜ r ≡ statusOf (takeTold answer) ⌝ }
-    ensures { λ _. ⌜ now (values .exit) ≡ told (numbersOf bitNumbers (takeTold answer)) (now (values .entry)) ⌝ }
-{
-    match answer {
-        TakeAnswer::Span => {
-            let numbers = [1];
-            tell(&numbers, values);
-            0
-        }
-        TakeAnswer::Nothing => {
-            let numbers = [0];
-            tell(&numbers, values);
-            0
-        }
-        TakeAnswer::Refused(r) => refuse(r, values),
-    }
-}
-
 #[no_mangle]
 pub extern "C" fn mdr_take(scanner: &mut Scanner, store: &mut [u8], values: &mut [u64]) -> u8
     ensures { λ r. ⌜ r ≡ statusOf (takeCall (now (scanner .entry)) (now (store .entry)) .answer) ⌝ }
@@ -136,25 +96,6 @@ pub extern "C" fn mdr_take(scanner: &mut Scanner, store: &mut [u8], values: &mut
     ensures { λ _. ⌜ now (store .exit) ≡ takeCall (now (scanner .entry)) (now (store .entry)) .store ⌝ }
 {
     take_told(scanner.take(store), values)
-}
-
-fn sight_told(sight: Sight, values: &mut [u64])
-    ensures { λ _. ⌜ now (values .exit) ≡ told (sightNumbers sight) (now (values .entry)) ⌝ }
-{
-    match sight {
-        Sight::NoStart => {
-            let numbers = [0];
-            tell(&numbers, values);
-        }
-        Sight::NoEnd(at) => {
-            let numbers = [1, at as u64];
-            tell(&numbers, values);
-        }
-        Sight::Both { at, len } => {
-            let numbers = [2, at as u64, len as u64];
-            tell(&numbers, values);
-        }
-    }
 }
 
 #[no_mangle]

@@ -1,55 +1,21 @@
-use Prim.Native.Nat.{ℕ}
-use mathlib.Core.Path.{_≡_, refl, ap, sym, _∙_}
-use mathlib.Core.List.{List, [], _∷_}
-use types.Run.{OneOf, miss}
-use denote.Enum.Declared.{tagOf}
 use borrow.Author.Needs.{needs}
-use Rattle.telling.specs.Told.{statusOf, numbersOf, told}
-use Rattle.telling.proofs.LawsTold.{turned}
-use Rattle.numbers.specs.Numbers.{readNumbers, lineReadNumbers}
-use Rattle.line_reader.specs.LineReader.{readTold}
-use Rattle.line_reader.specs.declared.line_reader.LineRead.{LineRead}
-use Rattle.line_reader.specs.declared.line_reader.LineRead.the-variants.{Unread, Header, Masked, Full, Refused}
-use Rattle.line_reader.proofs.line_reader.LineRead.{the-type}
+use Rattle.telling.proofs.LawsTold.{passed}
+use Rattle.numbers.specs.Numbers.{lineReadNumbers}
 use Rattle.ffi.proofs.logging.mdr_read_line.Statement.{statement}
 use Rattle.ffi.proofs.logging.mdr_read_line.Tie as tie
 
--- all but the refusal
-abbrev Lines : List ℕ
-Lines = 0 ∷ 1 ∷ 2 ∷ 3 ∷ []
-
-was-read : (r : LineRead) → OneOf Lines (tagOf the-type r) → (0 ≡ statusOf (readTold r)) × (readNumbers (readTold r) ≡ numbersOf lineReadNumbers (readTold r))
-was-read (Unread n) k = (refl, refl)
-was-read (Header kind seq len command) k = (refl, refl)
-was-read (Masked kind seq len) k = (refl, refl)
-was-read (Full kind seq len) k = (refl, refl)
-was-read (Refused r) k = absurd (miss Lines 4 tt k)
-
 returns : tie.Need-returns
 returns c =
-    let e = c .before .before .before .before .before .before .before .before .before .read-line .ensures in
-    let t = turned lineReadNumbers (c .before .before .before .before .before .before .before .before .before .before .before .before .before .before .args .values .now) (c .before .before .before .before .before .read .given .0 .0) (sym (ap readTold (c .before .before .before .before .before .read .given .1)) ∙ e .0) (c .before .before .refuse .ensures) in
+    let e = c .before .before .before .before .before .before .read-line .ensures in
+    let t = passed lineReadNumbers (c .before .before .before .before .before .before .before .before .before .before .before .args .values .now) (e .0) (c .before .before .line-read-told .ensures) in
     (t .0, (t .1, e .1))
-
-returns-2 : tie.Need-returns-2
-returns-2 c =
-    let e = c .before .before .before .before .before .before .before .before .before .read-line .ensures in
-    let w = was-read (c .before .before .before .before .before .before .before .before .before .read-line .result) (c .before .before .before .before .before .before .match .keys2) in
-    (w .0 ∙ ap statusOf (e .0), (c .before .before .tell .ensures ∙ ap (λ (xs : List ℕ). told xs (c .before .before .before .before .before .before .before .before .before .before .before .before .before .before .args .values .now)) (c .before .before .before .before .before .line .ensures ∙ w .1 ∙ ap (numbersOf lineReadNumbers) (e .0)), e .1))
 
 pub mdr-read-line-spec : {M : Type 1} → statement M
 mdr-read-line-spec =
     tie.close
     (tie.spec
     (λ c κs. search needs)
-    (λ c. search needs)
-    (λ c κs. search needs)
-    (λ c κs. search needs)
-    (λ c. search needs)
     (λ c κs. search needs)
     (λ c. search needs)
     (λ c. search needs)
-    returns
-    (λ c. search needs)
-    (λ c. search needs)
-    returns-2)
+    returns)

@@ -27,10 +27,10 @@ use Rattle.scanner.proofs.scanner.Scanner.take as core
 use Rattle.scanner.proofs.scanner.Scanner.take.Symbol as core-def
 use Rattle.scanner.proofs.scanner.Scanner.take.Symbol.{name as #core}
 use Rattle.scanner.proofs.scanner.Scanner.take.Met as core-thm
-use Rattle.ffi.proofs.scans.take_told as tell
-use Rattle.ffi.proofs.scans.take_told.Symbol as tell-def
-use Rattle.ffi.proofs.scans.take_told.Symbol.{name as #tell}
-use Rattle.ffi.proofs.scans.take_told.Met as tell-thm
+use Rattle.answers.proofs.take_told as tell
+use Rattle.answers.proofs.take_told.Symbol as tell-def
+use Rattle.answers.proofs.take_told.Symbol.{name as #tell}
+use Rattle.answers.proofs.take_told.Met as tell-thm
 use Rattle.ffi.proofs.scans.mdr_take.Key.{name as #thin}
 use Rattle.ffi.proofs.scans.mdr_take as thin
 use Rattle.ffi.proofs.scans.mdr_take.Statement as stated
@@ -177,4 +177,4 @@ mdr-take-spec 𝓤 H 𝓜 𝓖 𝓡 =
     (tables 𝓤 H 𝓜 𝓡 code.env .C) (tables 𝓤 H 𝓜 𝓡 code.env .Λ) #thin code.function (code.unfolded 𝓤 H 𝓜 𝓡)
     (meets 𝓤 H (𝓖 .A) (givenOf 𝓤 H 𝓜 𝓖) (𝓜 .mem) (𝓡 .run) (tablesOf 𝓤 H 𝓜 (tables 𝓤 H 𝓜 𝓡 code.env))
     (cited 𝓤 H (Core 𝓤 H (𝓖 .A) (𝓜 .mem) (𝓡 .run)) 𝓜 𝓡 code.env #core core-def.routine code.calls-scanner·scanner·Scanner·take (core-thm.met 𝓤 H 𝓜 𝓖 𝓡))
-    (cited 𝓤 H (Tell 𝓤 H (𝓖 .A) (𝓜 .mem) (𝓡 .run)) 𝓜 𝓡 code.env #tell tell-def.routine code.calls-ffi·scans·take-told (tell-thm.met 𝓤 H 𝓜 𝓖 𝓡)))
+    (cited 𝓤 H (Tell 𝓤 H (𝓖 .A) (𝓜 .mem) (𝓡 .run)) 𝓜 𝓡 code.env #tell tell-def.routine code.calls-answers·take-told (tell-thm.met 𝓤 H 𝓜 𝓖 𝓡)))

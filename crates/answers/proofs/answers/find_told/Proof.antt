@@ -1,13 +1,13 @@
 use mathlib.Core.Path.{refl}
 use borrow.Author.Needs.{needs}
-use Rattle.ffi.proofs.logging.line_told.Statement.{statement}
-use Rattle.ffi.proofs.logging.line_told.Tie as tie
+use Rattle.answers.proofs.answers.find_told.Statement.{statement}
+use Rattle.answers.proofs.answers.find_told.Tie as tie
 
 enum-told : tie.Need-enum-told
 enum-told c = search needs
 
-pub line-told-spec : {M : Type 1} → statement M
-line-told-spec =
+pub find-told-spec : {M : Type 1} → statement M
+find-told-spec =
     tie.close
     (tie.spec
     (λ c. search needs)

@@ -1,6 +1,6 @@
 use borrow.Author.Needs.{needs}
-use Rattle.ffi.proofs.scans.sight_told.Statement.{statement}
-use Rattle.ffi.proofs.scans.sight_told.Tie as tie
+use Rattle.answers.proofs.answers.sight_told.Statement.{statement}
+use Rattle.answers.proofs.answers.sight_told.Tie as tie
 
 enum-told : tie.Need-enum-told
 enum-told c = search needs

@@ -1,7 +1,7 @@
 use mathlib.Core.Path.{refl}
 use borrow.Author.Needs.{needs}
-use Rattle.ffi.proofs.frames.header_told.Statement.{statement}
-use Rattle.ffi.proofs.frames.header_told.Tie as tie
+use Rattle.answers.proofs.answers.header_told.Statement.{statement}
+use Rattle.answers.proofs.answers.header_told.Tie as tie
 
 pub header-told-spec : {M : Type 1} → statement M
 header-told-spec =

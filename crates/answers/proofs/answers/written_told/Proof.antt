@@ -1,10 +1,10 @@
 use mathlib.Core.Path.{refl}
 use borrow.Author.Needs.{needs}
-use Rattle.ffi.proofs.frames.written.Statement.{statement}
-use Rattle.ffi.proofs.frames.written.Tie as tie
+use Rattle.answers.proofs.answers.written_told.Statement.{statement}
+use Rattle.answers.proofs.answers.written_told.Tie as tie
 
-pub written-spec : {M : Type 1} → statement M
-written-spec =
+pub written-told-spec : {M : Type 1} → statement M
+written-told-spec =
     tie.close
     (tie.spec
     (λ c. search needs)

@@ -1,13 +1,13 @@
 use mathlib.Core.Path.{refl}
 use borrow.Author.Needs.{needs}
-use Rattle.ffi.proofs.scans.find_told.Statement.{statement}
-use Rattle.ffi.proofs.scans.find_told.Tie as tie
+use Rattle.answers.proofs.answers.line_told.Statement.{statement}
+use Rattle.answers.proofs.answers.line_told.Tie as tie
 
 enum-told : tie.Need-enum-told
 enum-told c = search needs
 
-pub find-told-spec : {M : Type 1} → statement M
-find-told-spec =
+pub line-told-spec : {M : Type 1} → statement M
+line-told-spec =
     tie.close
     (tie.spec
     (λ c. search needs)

@@ -1,7 +1,7 @@
 use mathlib.Core.Path.{refl}
 use borrow.Author.Needs.{needs}
-use Rattle.ffi.proofs.scans.take_told.Statement.{statement}
-use Rattle.ffi.proofs.scans.take_told.Tie as tie
+use Rattle.answers.proofs.answers.take_told.Statement.{statement}
+use Rattle.answers.proofs.answers.take_told.Tie as tie
 
 enum-told : tie.Need-enum-told
 enum-told c = search needs
