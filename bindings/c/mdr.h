@@ -58,6 +58,10 @@ uint8_t mdr_data_type(uint8_t byte);
 /* The sum of the bytes, wrapping at 256. */
 uint8_t mdr_checksum(const uint8_t *bytes, size_t bytes_len);
 
+/* The bytes added onto `sum` from the last to the first, wrapping at 256, for whoever fills a frame from its far end: the end of a body
+ * onto 0, then what stands before it onto that sum, in as many parts as come, give mdr_checksum of the whole. */
+uint8_t mdr_checksum_from_end(uint8_t sum, const uint8_t *bytes, size_t bytes_len);
+
 /* [length written]. Writes to the front of `out`; bytes behind stay. Refused (18), `out` stays. */
 uint8_t mdr_escape(const uint8_t *src, size_t src_len, uint8_t *out, size_t out_len, uint64_t *values, size_t values_len);
 

@@ -245,6 +245,12 @@ pub fn checksum(bytes: &[u8]) -> u8 {
     unsafe { sys::mdr_checksum(bytes.as_ptr(), bytes.len()) }
 }
 
+/// Adds the bytes onto `sum` from the last to the first, for whoever fills a frame from its far end: the end of a body onto 0, then what
+/// stands before it onto that sum, in as many parts as come, give [`checksum`] of the whole.
+pub fn checksum_from_end(sum: u8, bytes: &[u8]) -> u8 {
+    unsafe { sys::mdr_checksum_from_end(sum, bytes.as_ptr(), bytes.len()) }
+}
+
 /// How many bytes were written to the front of `out`.
 pub fn escape(src: &[u8], out: &mut [u8]) -> Result<usize, Refusal> {
     let v: [u64; 2] = told(|v, n| unsafe { sys::mdr_escape(src.as_ptr(), src.len(), out.as_mut_ptr(), out.len(), v, n) })?;

@@ -18,6 +18,7 @@ pub struct SupportFunction {
 unsafe extern "C" {
     pub fn mdr_data_type(byte: u8) -> u8;
     pub fn mdr_checksum(bytes: *const u8, bytes_len: usize) -> u8;
+    pub fn mdr_checksum_from_end(sum: u8, bytes: *const u8, bytes_len: usize) -> u8;
     pub fn mdr_escape(src: *const u8, src_len: usize, out: *mut u8, out_len: usize, values: *mut u64, values_len: usize) -> u8;
     pub fn mdr_unescape(src: *const u8, src_len: usize, out: *mut u8, out_len: usize, values: *mut u64, values_len: usize) -> u8;
     pub fn mdr_pack(

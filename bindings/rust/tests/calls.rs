@@ -14,6 +14,14 @@ fn frames() {
     }
     assert_eq!(checksum(&[]), 0);
     assert_eq!(checksum(&[0xFF, 0x02]), 1);
+    assert_eq!(checksum_from_end(0, &[]), 0);
+    assert_eq!(checksum_from_end(0xC5, &[]), 0xC5);
+    assert_eq!(checksum_from_end(0xFF, &[0x02]), 1);
+    let body = [0x0C, 0, 0, 0, 0, 4, 0x23, 0, 0x50, 1];
+    for cut in 0..=body.len() {
+        let end = checksum_from_end(0, &body[cut..]);
+        assert_eq!(checksum_from_end(end, &body[..cut]), 0x84);
+    }
 
     let mut out = [0xEE; 16];
     assert_eq!(ack(0xC5, &mut out), Ok(11));

@@ -6,6 +6,7 @@ ghost use mathlib.Core.Path.{_≡_};
 ghost use Rattle.base.specs.DataType.{fromWire};
 ghost use Rattle.base.specs.Sum.{checksumOf};
 ghost use Rattle.base.specs.Writing.{writeCall};
+ghost use Rattle.from_end.specs.FromEnd.{backOnto};
 ghost use Rattle.escaping.specs.Escaping.{escapeOf, unescapeCall};
 ghost use Rattle.framing.specs.Framing.{packCall, ackCall, unpackCall};
 ghost use Rattle.heading.specs.Heading.{headerRead};
@@ -41,6 +42,13 @@ pub extern "C" fn mdr_checksum(bytes: &[u8]) -> u8
     ensures { λ r. ⌜ r ≡ checksumOf (now (bytes .entry)) ⌝ }
 {
     frame::checksum(bytes)
+}
+
+#[no_mangle]
+pub extern "C" fn mdr_checksum_from_end(sum: u8, bytes: &[u8]) -> u8
+    ensures { λ r. ⌜ r ≡ backOnto sum (now (bytes .entry)) ⌝ }
+{
+    frame::checksum_from_end(sum, bytes)
 }
 
 #[no_mangle]

@@ -17,6 +17,7 @@ pub use framing::Unpacked;
 pub use framing::ack;
 pub use framing::pack;
 pub use framing::unpack;
+pub use from_end::checksum_from_end;
 pub use heading::Pass;
 pub use heading::Passed;
 pub use heading::read_header;

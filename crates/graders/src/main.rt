@@ -5,6 +5,7 @@
 //   noise F     ambient is read where a level is reported
 //   masked F    an address of stars is taken for one that is gone
 //   frame F     no misreading
+//   sum B       the checksum of the bytes B, and after each of them from the last to the first
 mod counts;
 mod levels;
 mod misreadings;
@@ -15,6 +16,7 @@ mod say;
 mod settings;
 mod shown;
 mod spans;
+mod sums;
 
 use libc::STDERR_FILENO;
 use libc::STDIN_FILENO;
@@ -32,6 +34,7 @@ use say::part;
 use say::say;
 use shown::heading;
 use spans::each_span;
+use sums::sums;
 
 // A frame has at most the bytes of the longest span that the log is sure to have; the other sizes are those of `outlog`.
 fn main() {
@@ -143,6 +146,10 @@ fn example(word: Word, given: &[u8], store: &mut [u8], work: &mut [u8], out: &mu
     say(b"bytes  ");
     bytes(given);
     say(b"\n");
+    if let Word::Sum = word {
+        sums(given);
+        return;
+    }
     misread(word, given, &plan, work);
     each_span(given, &plan, store, work, out);
 }

@@ -12,6 +12,7 @@ pub enum Word {
     Noise,
     Masked,
     Frame,
+    Sum,
     NoWord,
 }
 
@@ -96,6 +97,9 @@ pub fn word_of(line: &[u8]) -> Word {
     }
     if same(word, b"frame") {
         return Word::Frame;
+    }
+    if same(word, b"sum") {
+        return Word::Sum;
     }
     Word::NoWord
 }

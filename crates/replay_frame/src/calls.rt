@@ -3,6 +3,7 @@ use crate::lines::place;
 use frame::DataType;
 use frame::Unpacked;
 use frame::Written;
+use replay::behind;
 use replay::bytes;
 use replay::fill;
 use replay::first;
@@ -33,6 +34,24 @@ fn unpacked(text: &mut [u8], k: usize, u: Unpacked) -> usize {
         }
         Unpacked::Refused(r) => refusal(text, k, r),
     }
+}
+
+// The sum of what is behind a cut, and the sum with what is before it added onto that.
+fn cut_into(src: &[u8], cut: usize, text: &mut [u8], k: usize) -> usize {
+    let end = frame::checksum_from_end(0, behind(src, cut));
+    let next = number(text, k, end as u64);
+    let whole = frame::checksum_from_end(end, first(src, cut));
+    number(text, next, whole as u64)
+}
+
+pub fn cuts_into(src: &[u8], text: &mut [u8], k: usize) -> usize {
+    let mut next = cut_into(src, 0, text, k);
+    let mut cut = 0;
+    while cut < src.len() {
+        cut += 1;
+        next = cut_into(src, cut, text, next);
+    }
+    next
 }
 
 // A call that is lent one buffer.

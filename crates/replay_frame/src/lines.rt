@@ -2,6 +2,7 @@
 use crate::calls::Call;
 use crate::calls::Damage;
 use crate::calls::call_into;
+use crate::calls::cuts_into;
 use crate::calls::frame_into;
 use crate::calls::unescape_next;
 use frame::DataType;
@@ -48,6 +49,9 @@ fn answer(
 ) -> usize {
     match letter(input, at) {
         b's' => sum_case(input, at, src, text, k),
+        b'o' => onto_case(input, at, src, text, k),
+        b'c' => cut_case(input, at, src, text, k),
+        b'k' => cut_rule_case(input, at, src, text, k),
         b't' => type_case(input, at, text, k),
         b'e' => call_case(Call::Escape, input, at, src, out, text, k),
         b'u' => call_case(Call::Unescape, input, at, src, out, text, k),
@@ -72,6 +76,23 @@ fn answer(
 fn sum_case(input: &[u8], at: usize, src: &mut [u8], text: &mut [u8], k: usize) -> usize {
     let n = hex_field(input, at, 1, src);
     number(text, k, frame::checksum(first(src, n)) as u64)
+}
+
+fn onto_case(input: &[u8], at: usize, src: &mut [u8], text: &mut [u8], k: usize) -> usize {
+    let sum = byte_field(input, at, 1);
+    let n = hex_field(input, at, 2, src);
+    number(text, k, frame::checksum_from_end(sum, first(src, n)) as u64)
+}
+
+fn cut_case(input: &[u8], at: usize, src: &mut [u8], text: &mut [u8], k: usize) -> usize {
+    let n = hex_field(input, at, 1, src);
+    cuts_into(first(src, n), text, k)
+}
+
+fn cut_rule_case(input: &[u8], at: usize, src: &mut [u8], text: &mut [u8], k: usize) -> usize {
+    let part = first_mut(src, number_field(input, at, 1));
+    fill(part, number_field(input, at, 2) as u64);
+    cuts_into(part, text, k)
 }
 
 fn type_case(input: &[u8], at: usize, text: &mut [u8], k: usize) -> usize {

@@ -3,6 +3,9 @@
 // A case is a line: a letter and its fields, each after one blank. Numbers are decimal, BYTES are hexadecimal in capitals, `-` for none. Every buffer
 // that is lent is M bytes long and filled by the rule of seed 84 before the call; the answer is followed by all that it holds after it.
 //   s BYTES                            checksum
+//   o SUM BYTES                        checksum from the end, onto SUM
+//   c BYTES                            the same for every cut of BYTES: the end onto 0, and the front onto the end's sum
+//   k LEN SEED                         the same for every cut of LEN bytes of the rule of SEED
 //   t N                                the data type of the byte N, and its byte
 //   e M BYTES                          escape
 //   u M BYTES                          unescape

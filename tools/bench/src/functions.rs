@@ -83,6 +83,11 @@ fn rust_checksum(bytes: &[u8]) -> u8 {
 }
 
 #[inline(never)]
+fn rust_checksum_from_end(sum: u8, bytes: &[u8]) -> u8 {
+    bytes.iter().rev().fold(sum, |sum, &b| sum.wrapping_add(b))
+}
+
+#[inline(never)]
 fn rust_escape(src: &[u8], out: &mut Vec<u8>) {
     out.clear();
     escape_into(src, out);
@@ -132,6 +137,16 @@ fn framing(n: usize) {
         INPUTS,
     );
     row(&format!("checksum, {n}"), times);
+    let times = time(
+        |i| {
+            black_box(ours::checksum_from_end(black_box(i as u8), black_box(&payloads[i])));
+        },
+        |i| {
+            black_box(rust_checksum_from_end(black_box(i as u8), black_box(&payloads[i])));
+        },
+        INPUTS,
+    );
+    row(&format!("checksum_from_end, {n}, beside a fold over `iter().rev()`"), times);
     let times = time(
         |i| {
             ours::escape(black_box(&payloads[i]), &mut out, &mut values);

@@ -17,6 +17,10 @@ pub fn checksum(bytes: &[u8]) -> u8 {
     unsafe { sys::mdr_checksum(bytes.as_ptr(), bytes.len()) }
 }
 
+pub fn checksum_from_end(sum: u8, bytes: &[u8]) -> u8 {
+    unsafe { sys::mdr_checksum_from_end(sum, bytes.as_ptr(), bytes.len()) }
+}
+
 pub fn escape(src: &[u8], out: &mut [u8], values: &mut [u64]) -> u8 {
     unsafe { sys::mdr_escape(src.as_ptr(), src.len(), out.as_mut_ptr(), out.len(), values.as_mut_ptr(), values.len()) }
 }

@@ -1,4 +1,4 @@
-//! Data types, checksum, escape, unescape, pack, ack, unpack and read_header beside the Rust's.
+//! Data types, checksum, checksum_from_end, escape, unescape, pack, ack, unpack and read_header beside the Rust's.
 use crate::case::{Case, Run, Tally, fewer, fewer_in_frame, hex};
 use crate::inputs::{any, content, length, room, shortest, strings, values};
 use crate::lent::{Left, Lent, MOST_VALUES, Told, Values, left_difference, told_difference};
@@ -11,6 +11,8 @@ use original::mdr::frame::{self, FrameError};
 pub enum Call {
     DataType,
     Checksum,
+    /// Onto the sum that `seq` has.
+    ChecksumFromEnd,
     Escape,
     Unescape,
     Pack,
@@ -68,6 +70,17 @@ impl Framing {
         };
         self.compare(tally, entry, bytes.len(), expected, ours)
     }
+}
+
+/// The sum over the bytes from the last to the first; the original adds from the first byte only.
+fn from_end(sum: u8, bytes: &[u8]) -> u8 {
+    bytes.iter().rev().fold(sum, |sum, &b| sum.wrapping_add(b))
+}
+
+/// The places at which the bytes are cut: all of them, or seventeen of a long string.
+fn cuts(bytes: &[u8]) -> Vec<usize> {
+    let n = bytes.len();
+    if n <= 64 { (0..=n).collect() } else { (0..=16).map(|k| n * k / 16).collect() }
 }
 
 /// The place in the list of names.
@@ -156,6 +169,23 @@ impl Case for Framing {
                 let (expected, got) = (frame::checksum(bytes), ours::checksum(bytes));
                 (expected != got).then(|| format!("expected: {expected}\nours:     {got}"))
             }
+            Call::ChecksumFromEnd => {
+                tally.add("checksum_from_end", 0);
+                let (expected, got) = (from_end(self.seq, bytes), ours::checksum_from_end(self.seq, bytes));
+                if expected != got {
+                    return Some(format!("expected: {expected}\nours:     {got}"));
+                }
+                let whole = frame::checksum(bytes);
+                for k in cuts(bytes) {
+                    let end = ours::checksum_from_end(0, &bytes[k..]);
+                    let expected = (from_end(0, &bytes[k..]), whole);
+                    let got = (end, ours::checksum_from_end(end, &bytes[..k]));
+                    if expected != got {
+                        return Some(format!("cut at {k}, the end and the whole\nexpected: {expected:?}\nours:     {got:?}"));
+                    }
+                }
+                None
+            }
             Call::Escape => {
                 let mut expected = Vec::new();
                 frame::escape_into(bytes, &mut expected);
@@ -229,7 +259,14 @@ pub fn exhaustive(run: &mut Run) {
             }
         }
     }
+    for sum in 0..=255 {
+        run.case(&Framing { seq: sum, ..Framing::of(Call::ChecksumFromEnd, vec![], 0) });
+        for b in 0..=255 {
+            run.case(&Framing { seq: sum, ..Framing::of(Call::ChecksumFromEnd, vec![b], 0) });
+        }
+    }
     for bytes in shortest() {
+        run.case(&Framing { seq: 0xC5, ..Framing::of(Call::ChecksumFromEnd, bytes.clone(), 0) });
         for call in [Call::Checksum, Call::Escape, Call::Unescape, Call::Pack, Call::Unpack, Call::ReadHeader] {
             run.case(&Framing::of(call, bytes.clone(), 0));
         }
@@ -314,6 +351,7 @@ pub fn frame_like(c: &mut Choice) -> Vec<u8> {
 pub fn random(run: &mut Run, c: &mut Choice) {
     let call = c.of(&[
         Call::Checksum,
+        Call::ChecksumFromEnd,
         Call::Escape,
         Call::Unescape,
         Call::Unescape,

@@ -1,4 +1,4 @@
-//! Cases for `frame`: the Rust's `checksum`, `escape_into`, `unescape`, `pack`, `ack_frame`, `unpack` and `DataType`.
+//! Cases for `frame`: the Rust's `checksum`, a sum over `iter().rev()`, `escape_into`, `unescape`, `pack`, `ack_frame`, `unpack` and `DataType`.
 use crate::text::{Choice, List, field, lent, over, rule, shown, sum};
 use common::log::number;
 use original::mdr::DataType;
@@ -10,6 +10,7 @@ const MIX: [u8; 7] = [0x3C, 0x3D, 0x3E, 0x2C, 0x2D, 0x2E, 0x41];
 pub fn list() -> List {
     let mut l = List::default();
     checksums(&mut l);
+    checksums_from_end(&mut l);
     types(&mut l);
     escapes(&mut l);
     unescapes(&mut l);
@@ -129,6 +130,39 @@ fn checksums(l: &mut List) {
     }
     for n in 2..200 {
         case(&mixed(&mut c, n));
+    }
+}
+
+/// OURS, by document 02, C-14: the original adds from the first byte only.
+fn from_end(sum: u8, bytes: &[u8]) -> u8 {
+    bytes.iter().rev().fold(sum, |sum, &b| sum.wrapping_add(b))
+}
+
+/// For each cut the sum of the end, and that of the front added onto it, which is the checksum of the whole.
+fn cuts(s: &[u8]) -> String {
+    let each = (0..=s.len()).map(|k| format!("{} {}", from_end(0, &s[k..]), frame::checksum(s)));
+    each.collect::<Vec<_>>().join(" ")
+}
+
+/// Every sum with some strings; lists that are cut everywhere.
+fn checksums_from_end(l: &mut List) {
+    let mut c = Choice::new(14);
+    for sum in 0..=255 {
+        for s in [&[][..], &[0], &[1], &[0xFF], &[0x80, 0x80], &mixed(&mut c, 5)] {
+            l.add(format!("o {sum} {}", field(s)), from_end(sum, s).to_string());
+        }
+    }
+    let mut case = |s: &[u8]| l.add(format!("c {}", field(s)), cuts(s));
+    case(&[]);
+    case(&[0xFF, 0x02]);
+    for b in 0..=255 {
+        case(&[b]);
+        case(&[b, 0xFF]);
+        case(&[0xFF, b]);
+    }
+    for n in (3..=260).chain([511, 512, 513, 1_000, 2_000]) {
+        let seed = 2 * n as u64;
+        l.add(format!("k {n} {seed}"), cuts(&rule(seed, n)));
     }
 }
 

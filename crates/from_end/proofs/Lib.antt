@@ -1,0 +1,2 @@
+pub mod LawsFromEnd
+pub mod CasesFromEnd
