@@ -1,7 +1,7 @@
 -- 02, C-14: the checksum from the far end, cut anywhere, is 01's. Assumes nothing.
 use Prim.Native.Nat.{ℕ, zero, _+_, _%_, _≤_, _<_}
 use mathlib.Core.Path.{_≡_, refl, sym, _∙_, ap}
-use mathlib.Core.List.{List, [], _∷_, _++_}
+use mathlib.Core.List.{List, [], _∷_, _++_, foldr, flatten}
 use native.Mathlib.Omega.{arith}
 use lib.ListN.{length, take, drop, getD, take-append-drop}
 use lib.Seq.{take-add, drop-cons}
@@ -31,6 +31,15 @@ far-end xs ys = sym (back-append 0 xs ys) ∙ whole (xs ++ ys)
 -- a list, and any place to cut it at
 pub cut-anywhere : (bytes : List ℕ) (k : ℕ) → backOnto (backOnto 0 (drop k bytes)) (take k bytes) ≡ checksumOf bytes
 cut-anywhere bytes k = far-end (take k bytes) (drop k bytes) ∙ ap checksumOf (take-append-drop k bytes)
+
+-- any number of parts: the last onto 0, and each before it onto what that gave
+parts-back : (ps : List (List ℕ)) → foldr (λ p sum. backOnto sum p) 0 ps ≡ backOnto 0 (flatten ps)
+unfolding backOnto flatten
+parts-back [] = refl
+parts-back (p ∷ ps) = rw (parts-back ps, back-append 0 p (flatten ps))
+
+pub parts : (ps : List (List ℕ)) → foldr (λ p sum. backOnto sum p) 0 ps ≡ checksumOf (flatten ps)
+parts ps = parts-back ps ∙ whole (flatten ps)
 
 -- of the first i bytes those from k on are added first: w of them, or one
 pub back-block : (sum next : ℕ) (bytes : List ℕ) (i k w : ℕ) → i ≡ k + w → next ≡ backOnto sum (take w (drop k bytes)) → backOnto next (take k bytes) ≡ backOnto sum (take i bytes)
