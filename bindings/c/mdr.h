@@ -150,8 +150,9 @@ uint8_t mdr_paired_devices(const uint8_t *payload, size_t payload_len, uint64_t 
  * name has 0 characters. Refused by 19, or by 21 where the index is not below the count. */
 uint8_t mdr_paired_device(const uint8_t *payload, size_t payload_len, size_t index, uint64_t *values, size_t values_len);
 
-/* Makes every byte of an address or a name `*`. A payload that mdr_paired_devices refuses stays. */
-void mdr_mask_paired(uint8_t *payload, size_t payload_len);
+/* The length of the masked payload: each address is seventeen `*`, and each name is empty, its length 0. It stands at the front of
+ * `payload`, and every byte behind it becomes zero. A payload that mdr_paired_devices refuses stays, and its own length is returned. */
+size_t mdr_mask_paired(uint8_t *payload, size_t payload_len);
 
 /* [count] of supported functions. */
 uint8_t mdr_support_check(const uint8_t *payload, size_t payload_len, uint64_t *values, size_t values_len);
@@ -223,7 +224,9 @@ uint8_t mdr_all_lines(struct mdr_scanner *scanner, uint8_t *store, size_t store_
 
 /* Reads one line of a log, its newline included. [letter, type byte, sequence, payload length, command or 256], the letter being the
  * line's first byte. Of an 'R' line [letter, number of the refusal, 0, 0, 256]. The command is told of an 'H' line alone; of an 'S' or 'F'
- * line the payload comes to stand at the front of `out`, and the bytes behind stay. Of 'R' and 'H' all of `out` stays.
+ * line the payload comes to stand at the front of `out`, and the bytes behind stay. Of 'R' and 'H' all of `out` stays. Where the
+ * plan's entry is 5, mdr_line writes 4294967295 for the length in an 'H' line. An 'S' line with name lengths and a `*` for each byte of a
+ * name, as an earlier library wrote it, is read as the frame that it holds.
  *
  * Refused by 24 unless the line is a letter, a space, digits in capitals and a newline, and no more, and the digits are: for 'R' 08 or 12
  * to 16; for 'H' type, sequence, a length of four bytes, and a command exactly where the length is not 0; for 'S' and 'F' a frame that

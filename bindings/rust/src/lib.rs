@@ -409,7 +409,7 @@ pub fn plan_fine(plan: &[u8]) -> bool {
 pub enum LineRead<'a> {
     /// `R`: the number of the refusal
     Unread(u8),
-    /// `H`: a command where the length is not 0
+    /// `H`: a command where the length is not 0; `Scanner::line` writes 4294967295 for the length where the plan's entry is 5
     Header { header: Header, command: Option<u8> },
     /// `S`
     Masked(Unpacked<'a>),
@@ -623,9 +623,12 @@ pub fn paired_device(payload: &[u8], index: usize) -> Result<PairedDevice<'_>, R
     })
 }
 
-/// Makes every byte of an address or a name `*`; a payload that is no list of paired devices stays.
-pub fn mask_paired(payload: &mut [u8]) {
-    unsafe { sys::mdr_mask_paired(payload.as_mut_ptr(), payload.len()) }
+/// Makes each address seventeen `*` and each name empty. The masked payload stands at the front and is handed back; what stood behind it
+/// becomes zero. A payload that is no list of paired devices stays, and is handed back whole.
+#[must_use = "the masked payload is shorter than the slice"]
+pub fn mask_paired(payload: &mut [u8]) -> &mut [u8] {
+    let len = unsafe { sys::mdr_mask_paired(payload.as_mut_ptr(), payload.len()) };
+    &mut payload[..len]
 }
 
 /// How many functions the list has.

@@ -49,7 +49,7 @@ unsafe extern "C" {
     pub fn mdr_equalizer(payload: *const u8, payload_len: usize, values: *mut u64, values_len: usize) -> u8;
     pub fn mdr_paired_devices(payload: *const u8, payload_len: usize, values: *mut u64, values_len: usize) -> u8;
     pub fn mdr_paired_device(payload: *const u8, payload_len: usize, index: usize, values: *mut u64, values_len: usize) -> u8;
-    pub fn mdr_mask_paired(payload: *mut u8, payload_len: usize);
+    pub fn mdr_mask_paired(payload: *mut u8, payload_len: usize) -> usize;
     pub fn mdr_support_check(payload: *const u8, payload_len: usize, values: *mut u64, values_len: usize) -> u8;
     pub fn mdr_support_functions(
         table: u8,

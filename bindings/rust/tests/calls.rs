@@ -162,18 +162,35 @@ fn lines_read_back() {
     assert_eq!(read_line(b"H 010100000000\n", &mut out), Ok(LineRead::Header { header: ack, command: None }));
     let withheld = Header { data_type: DataType::DataMdr, seq: 0, len: 0x102 };
     assert_eq!(read_line(b"H 0C0000000102A5\n", &mut []), Ok(LineRead::Header { header: withheld, command: Some(0xA5) }));
+    let refused = Header { data_type: DataType::DataMdrNo2, seq: 1, len: 4_294_967_295 };
+    assert_eq!(read_line(b"H 0E01FFFFFFFF37\n", &mut []), Ok(LineRead::Header { header: refused, command: Some(0x37) }));
     assert_eq!(out, [0xEE; 32]);
 
     let battery = Unpacked { data_type: DataType::DataMdr, seq: 0, payload: &[0x23, 0x00, 0x50, 0x01] };
     assert_eq!(read_line(b"F 3E0C000000000423005001843C\n", &mut out), Ok(LineRead::Full(battery)));
     assert_eq!(out[..5], [0x23, 0x00, 0x50, 0x01, 0xEE]);
-    let stars = b"\x37\x02\x01*****************\x01\x00\x00\x00\x02**\x00";
+    let stars = b"\x37\x02\x01*****************\x01\x00\x00\x00\x00\x00";
     let devices = Unpacked { data_type: DataType::DataMdrNo2, seq: 1, payload: stars };
-    let line = b"S 3E0E010000001C3702012A2A2A2A2A2A2A2A2A2A2A2A2A2A2A2A2A01000000022A2A00863C\n";
+    let line = b"S 3E0E010000001A3702012A2A2A2A2A2A2A2A2A2A2A2A2A2A2A2A2A0100000000002E3C\n";
     assert_eq!(read_line(line, &mut out), Ok(LineRead::Masked(devices)));
-    assert_eq!((&out[..28], &out[28..]), (&stars[..], &[0xEE; 4][..]));
+    assert_eq!((&out[..26], &out[26..]), (&stars[..], &[0xEE; 6][..]));
     let escaped = Unpacked { data_type: DataType::Data, seq: 0x3E, payload: &[] };
     assert_eq!(read_line(b"F 3E003D2E000000003D2E3C\n", &mut []), Ok(LineRead::Full(escaped)));
+}
+
+/// `S` lines with the lengths of names, and stars for their bytes, are in logs that were written before.
+#[test]
+fn lines_written_before() {
+    let line = b"S 3E0E010000001C3702012A2A2A2A2A2A2A2A2A2A2A2A2A2A2A2A2A01000000022A2A00863C\n";
+    let stars = b"\x37\x02\x01*****************\x01\x00\x00\x00\x02**\x00";
+    let mut out = [0xEE; 32];
+    let Ok(LineRead::Masked(read)) = read_line(line, &mut out) else { panic!("a masked line") };
+    assert_eq!(read, Unpacked { data_type: DataType::DataMdrNo2, seq: 1, payload: stars });
+    let mut frame = [0; 64];
+    let len = pack(read.data_type, read.seq, read.payload, &mut frame).unwrap();
+    let digits: String = frame[..len].iter().map(|b| format!("{b:02X}")).collect();
+    assert_eq!(format!("S {digits}\n").as_bytes(), line);
+    assert_eq!(out[28..], [0xEE; 4]);
 }
 
 #[test]
@@ -279,9 +296,83 @@ fn paired() {
     let device = PairedDevice { address, status: 1, details: [0, 7, 9], name: b"Al", characters: Some(2) };
     assert_eq!(paired_device(DEVICES, 0), Ok(device));
     assert_eq!(paired_device(DEVICES, 1), Err(Refusal::NoSuchDevice));
-    let mut masked = DEVICES.to_vec();
-    mask_paired(&mut masked);
-    assert_eq!(masked, b"\x37\x02\x01*****************\x01\x00\x07\x09\x02**\x00");
+}
+
+/// A list of devices, each an address of one letter, what stays, and a name.
+fn devices(each: &[(u8, [u8; 4], &[u8])], last: u8) -> Vec<u8> {
+    let mut payload = vec![0x37, 0x02, each.len() as u8];
+    for (letter, kept, name) in each {
+        payload.extend([*letter; 17]);
+        payload.extend(kept);
+        payload.push(name.len() as u8);
+        payload.extend(*name);
+    }
+    payload.push(last);
+    payload
+}
+
+#[test]
+fn masking() {
+    let two = devices(&[(b'a', [1, 0, 7, 9], b"Al"), (b'b', [0x3E, 0, 1, 2], b"")], 5);
+    let stars = devices(&[(b'*', [1, 0, 7, 9], b""), (b'*', [0x3E, 0, 1, 2], b"")], 5);
+    for (payload, masked) in [
+        (DEVICES, &b"\x37\x02\x01*****************\x01\x00\x07\x09\x00\x00"[..]),
+        (&two, &stars),
+        (&stars, &stars),
+        (&devices(&[], 5), &[0x37, 0x02, 0, 5]),
+    ] {
+        let mut bytes = payload.to_vec();
+        assert_eq!(mask_paired(&mut bytes), masked);
+        assert_eq!(bytes[..masked.len()], *masked);
+        assert_eq!(bytes[masked.len()..], vec![0; payload.len() - masked.len()]);
+        assert_eq!(paired_devices(masked), paired_devices(payload));
+    }
+    // A byte short, a byte left over, another kind, and nothing.
+    let other = [&[0x37, 0x03], &two[2..]].concat();
+    for refused in [&two[..two.len() - 1], &[&two[..], &[0]].concat(), &other, &[]] {
+        let mut bytes = refused.to_vec();
+        assert_eq!(mask_paired(&mut bytes), refused);
+        assert_eq!(bytes, refused);
+    }
+}
+
+/// The log of frames that come in pieces of so many bytes, under the house plan.
+fn log_of(frames: &[(DataType, &[u8])], piece: usize) -> String {
+    let (mut store, mut work, mut out) = ([0; 1_024], [0; 1_024], [0; 4_096]);
+    let mut stream = Vec::new();
+    for (data_type, payload) in frames {
+        let len = pack(*data_type, 1, payload, &mut out).unwrap();
+        stream.extend(&out[..len]);
+    }
+    let mut s = Scanner::open(900, &mut store).unwrap();
+    let mut log = Vec::new();
+    for piece in stream.chunks(piece) {
+        s.push(&mut store, piece).unwrap();
+        while let Some(len) = s.line(&mut store, &house_plan(), &mut work, &mut out).unwrap() {
+            log.extend(&out[..len]);
+        }
+    }
+    String::from_utf8(log).unwrap()
+}
+
+/// Addresses, names and the lengths of names leave no trace in a log, nor does the length of a list that is refused.
+#[test]
+fn equal_logs() {
+    let one = devices(&[(b'a', [1, 0, 7, 9], b"Al"), (b'<', [0x3E, 0, 1, 2], b"")], 5);
+    let other = devices(&[(b'>', [1, 0, 7, 9], &[b'='; 255]), (b'b', [0x3E, 0, 1, 2], b"Ines's phone")], 5);
+    let log = |list: &[u8], cut: usize, piece: usize| {
+        log_of(&[(DataType::DataMdrNo2, list), (DataType::DataMdrNo2, &list[..cut]), (DataType::Ack, &[])], piece)
+    };
+    let first = log(&one, one.len() - 1, 7);
+    assert_eq!(first, log(&other, 40, 100));
+    let lines: Vec<&str> = first.lines().collect();
+    assert_eq!((lines.len(), &lines[0][..20]), (3, "S 3E0E01000000303702"));
+    assert_eq!(lines[1..], ["H 0E01FFFFFFFF37", "H 010100000000"]);
+
+    // Where the plan's entry is not 5 the length is the payload's.
+    let under = |data_type| log_of(&[(data_type, &one[..40])], 9);
+    assert_eq!(under(DataType::DataMdrNo2), "H 0E01FFFFFFFF37\n");
+    assert_eq!(under(DataType::DataMdr), "H 0C010000002837\n");
 }
 
 fn device_called(name: &[u8]) -> Vec<u8> {

@@ -35,7 +35,8 @@ ghost use Rattle.battery.specs.Battery.{batteryOf};
 ghost use Rattle.noise.specs.Noise.{noiseOf};
 ghost use Rattle.payload.specs.Setting.{settingOf};
 ghost use Rattle.setting_info.specs.SettingInfo.{infoOf};
-ghost use Rattle.paired.specs.Paired.{pairedOf, lookupOf, maskedOf};
+ghost use Rattle.paired.specs.Paired.{pairedOf, lookupOf};
+ghost use Rattle.masking.specs.Masked.{maskedOf, maskedIn};
 ghost use Rattle.text.specs.Text.{charactersOf};
 ghost use Rattle.capability.specs.Capability.{capabilityOf};
 ghost use Rattle.range.specs.Range.{admitsOf, admittedTold, withinOf};
@@ -155,10 +156,11 @@ pub extern "C" fn mdr_paired_device(payload: &[u8], index: usize, values: &mut [
 }
 
 #[no_mangle]
-pub extern "C" fn mdr_mask_paired(payload: &mut [u8])
-    ensures { λ _. ⌜ now (payload .exit) ≡ maskedOf (now (payload .entry)) ⌝ }
+pub extern "C" fn mdr_mask_paired(payload: &mut [u8]) -> usize
+    ensures { λ r. ⌜ r ≡ length (maskedOf (now (payload .entry))) ⌝ }
+    ensures { λ _. ⌜ now (payload .exit) ≡ maskedIn (now (payload .entry)) ⌝ }
 {
-    paired::mask_paired(payload);
+    masking::mask_paired(payload)
 }
 
 #[no_mangle]

@@ -120,7 +120,10 @@ fn equalizer(payload: &[u8]) {
 fn paired(payload: &[u8]) {
     match paired::decode_paired_devices(payload) {
         PairedDevices::Count(count) => devices_report(count as usize, payload),
-        PairedDevices::Refused(r) => withheld(b"paired device", r),
+        PairedDevices::Refused(r) => {
+            withheld(b"paired device", r);
+            say(b"; its length is not told");
+        }
     }
 }
 

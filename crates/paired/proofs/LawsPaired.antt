@@ -13,7 +13,7 @@ use Rattle.text.specs.declared.text.Characters.the-variants.{Number}
 use Rattle.paired.specs.Paired.{nameLength, deviceEnd, countOf, startOf, pairedOf, deviceAt}
 
 -- there are as many devices as its count says, and one byte behind them
-was-accepted : (p : List ℕ) (n : ℕ) → pairedOf p ≡ accepted n → (countOf p ≡ n) × (startOf p n + 1 ≡ length p)
+pub was-accepted : (p : List ℕ) (n : ℕ) → pairedOf p ≡ accepted n → (countOf p ≡ n) × (startOf p n + 1 ≡ length p)
 was-accepted p n t =
     let w = was-read _ _ _ p n t in
     let e : countOf p ≡ n = cc in

@@ -1,3 +1,2 @@
 pub mod LawsPaired
-pub mod LawsMasked
 pub mod CasesPaired

@@ -1,7 +1,7 @@
--- 01, "Messages and decoders": `decode_paired_devices`, a device by its index; "Plan and outgoing line": the masked payload.
-use Prim.Native.Nat.{ℕ, zero, suc, _+_}
+-- 01, "Messages and decoders": `decode_paired_devices`, a device by its index.
+use Prim.Native.Nat.{ℕ, _+_}
 use mathlib.Core.List.{List, []}
-use lib.ListN.{getD, take, drop, set}
+use lib.ListN.{getD, take, drop}
 use lib.Dec.{ltb, eqb}
 use Rattle.base.specs.Outcome.{Outcome, accepted, refused, pick}
 use Rattle.base.specs.Refusal.{refusalTold}
@@ -50,11 +50,15 @@ deviceAt payload at = record {
   characters = charactersOf (take (nameLength payload at) (drop (at + 22) payload));
 }
 
+-- the device of an index
+abbrev pub deviceOf : List ℕ → ℕ → PairedDevice
+deviceOf payload index = deviceAt payload (startOf payload index)
+
 -- what the decoder tries, then 21 for an index not below the count
 abbrev pub lookupBy : Outcome ℕ → List ℕ → ℕ → Outcome PairedDevice
 lookupBy (refused n vs) payload index = refused n vs
 lookupBy (accepted count) payload index =
-    pick (ltb index count) (accepted (deviceAt payload (startOf payload index))) (refused 21 [])
+    pick (ltb index count) (accepted (deviceOf payload index)) (refused 21 [])
 
 unfoldable pub lookupOf : List ℕ → ℕ → Outcome PairedDevice
 lookupOf payload index = lookupBy (pairedOf payload) payload index
@@ -62,25 +66,3 @@ lookupOf payload index = lookupBy (pairedOf payload) payload index
 abbrev pub lookupTold : PairedLookup → Outcome PairedDevice
 lookupTold (Device d) = accepted d
 lookupTold (Refused′ r) = refusalTold r
-
--- k bytes from `from` on made `2A`
-unfoldable pub stars : ℕ → ℕ → List ℕ → List ℕ
-stars from zero out = out
-stars from (suc k) out = set (stars from k out) (from + k) 0x2A
-
--- the address and the name of the device that begins at `at` made `2A` in `out`
-abbrev pub maskedDevice : List ℕ → ℕ → List ℕ → List ℕ
-maskedDevice payload at out = stars (at + 22) (nameLength payload at) (stars at 17 out)
-
--- those of the first n devices
-unfoldable pub maskedFirst : List ℕ → ℕ → List ℕ
-maskedFirst payload zero = payload
-maskedFirst payload (suc n) = maskedDevice payload (startOf payload n) (maskedFirst payload n)
-
--- "payload with address and name bytes made `2A`"; one that the decoder refuses stays
-abbrev pub maskedBy : Outcome ℕ → List ℕ → List ℕ
-maskedBy (refused n vs) payload = payload
-maskedBy (accepted count) payload = maskedFirst payload count
-
-unfoldable pub maskedOf : List ℕ → List ℕ
-maskedOf payload = maskedBy (pairedOf payload) payload

@@ -108,7 +108,7 @@ pub fn paired_device(payload: &[u8], index: usize, values: &mut [u64]) -> u8 {
     unsafe { sys::mdr_paired_device(payload.as_ptr(), payload.len(), index, values.as_mut_ptr(), values.len()) }
 }
 
-pub fn mask_paired(payload: &mut [u8]) {
+pub fn mask_paired(payload: &mut [u8]) -> usize {
     unsafe { sys::mdr_mask_paired(payload.as_mut_ptr(), payload.len()) }
 }
 

@@ -6,7 +6,7 @@ use crate::lent::{Left, Lent, MOST_VALUES, Told, Values, left_difference, told_d
 use common::choice::Choice;
 use common::frames::{END, HOUSE, SENTRY, START, accepted, body, escaped, framed, house_plan};
 use common::lines::{Line, bytes_of, read};
-use common::log::{Log, mask, number, reading};
+use common::log::{Log, entry, mask, number, reading};
 use original::mdr::frame::{Frame, unescape, unpack};
 use original::mdr::payload::Reading;
 
@@ -31,7 +31,7 @@ fn payload(line: &Line) -> &[u8] {
     }
 }
 
-/// A span's public part, by 01.
+/// A span's public part, by 01 and by 02's C-15.
 fn public_part(plan: &[u8], span: &[u8]) -> Line {
     let mut f = match unpack(span) {
         Ok(f) => f,
@@ -39,8 +39,9 @@ fn public_part(plan: &[u8], span: &[u8]) -> Line {
     };
     match reading(plan, f.data_type.to_wire(), &f.payload) {
         None => {
-            let (len, command) = (f.payload.len() as u32, f.payload.first().copied());
-            Line::Header { data_type: f.data_type, seq: f.seq, len, command }
+            let hidden = entry(plan, f.data_type.to_wire(), &f.payload) == 5;
+            let len = if hidden { u32::MAX } else { f.payload.len() as u32 };
+            Line::Header { data_type: f.data_type, seq: f.seq, len, command: f.payload.first().copied() }
         }
         Some(Reading::PairedDevices(devices)) => {
             mask(&mut f.payload, devices.len());
@@ -247,7 +248,7 @@ fn damage_text(c: &mut Choice, line: &mut Vec<u8>) {
 }
 
 /// The first span of the bytes, or the shortest there is.
-fn span_of(bytes: &[u8]) -> Vec<u8> {
+pub fn span_of(bytes: &[u8]) -> Vec<u8> {
     let behind = |from: usize, mark: u8| bytes[from..].iter().position(|&b| b == mark).map(|n| from + n);
     let span = behind(0, START).and_then(|start| Some(bytes[start..=behind(start, END)?].to_vec()));
     span.unwrap_or(vec![START, END])

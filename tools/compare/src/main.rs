@@ -1,4 +1,5 @@
 //! Feeds the proved library and the Rust original the same inputs, and stops at the first difference.
+mod alike;
 mod case;
 mod framing;
 mod inputs;
@@ -52,6 +53,7 @@ fn main() {
         for _ in 0..2 {
             sessions::random(&mut run, &mut c);
         }
+        alike::random(&mut run, &mut c);
     }
     run.tally.print();
     println!("no difference, seed {seed}, {} s", start.elapsed().as_secs());

@@ -218,7 +218,7 @@ impl Payload {
         })
     }
 
-    /// A payload that the decoder refuses stays as it was.
+    /// The masked payload, zeros behind it, and its length; a payload that the decoder refuses stays as it was.
     fn masked(&self, tally: &mut Tally) -> Option<String> {
         let mut expected = self.bytes.clone();
         let devices = devices(&self.bytes);
@@ -226,8 +226,13 @@ impl Payload {
         if let Some(devices) = devices {
             common::log::mask(&mut expected, devices.len());
         }
+        let masked = expected.len();
+        expected.resize(self.bytes.len(), 0);
         let mut lent = Lent::holding(&self.bytes);
-        ours::mask_paired(lent.lend());
+        let len = ours::mask_paired(lent.lend());
+        if len != masked {
+            return Some(format!("expected: a masked payload of {masked} bytes\nours:     {len}"));
+        }
         left_difference("payload", &expected, &lent)
     }
 }
@@ -345,6 +350,18 @@ pub fn exhaustive(run: &mut Run) {
                     bytes[at] = b;
                     run.case(&Payload::of(call_of(entry), bytes));
                 }
+            }
+        }
+    }
+    // A name of every length, alone and among others, before and behind them; each list whole and with its last byte cut off.
+    for n in 0..=255 {
+        let long = content(&mut c, n);
+        for others in [vec![], vec![vec![]], vec![b"Al".to_vec(), vec![b'n'; 255]]] {
+            for at in 0..=others.len() {
+                let names = [&others[..at], &[long.clone()], &others[at..]].concat();
+                let bytes = paired(&mut c, 0x37, &names);
+                run.case(&Payload::of(Call::MaskPaired, bytes[..bytes.len() - 1].to_vec()));
+                run.case(&Payload::of(Call::MaskPaired, bytes));
             }
         }
     }

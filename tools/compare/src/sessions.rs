@@ -510,7 +510,7 @@ pub fn exhaustive(run: &mut Run) {
 }
 
 /// A part of a stream: a frame that the plan names, another, a damaged one, noise, or what looks like a frame.
-fn part(c: &mut Choice) -> Vec<u8> {
+pub fn part(c: &mut Choice) -> Vec<u8> {
     match c.below(16) {
         0..5 => {
             let (data_type, command, entry) = c.of(&HOUSE);

@@ -1,15 +1,16 @@
-//! Cases for `line_reader`: what a line of a log says, by the reading of `tools/common/src/read.rs` over the Rust's `unpack` and `pack`.
+//! Cases for `line_reader`: what a line of a log says, by the reading of `tools/common/src/lines.rs` over the Rust's `unpack` and `pack`.
 use crate::text::{Choice, List, field, lent, over, shown};
 use common::frames::{END, SENTRY, START, escaped, framed};
 use common::log::hex;
 use common::lines::{self, Line};
 use original::mdr::frame::{checksum, escape_into};
 
-/// The listing of document 01.
-const LISTING: [&str; 4] = [
+/// The listing of document 01 as 02's C-15 has it, and its last line as it was written before, with the length of the name.
+const LISTING: [&str; 5] = [
     "F 3E0C000000000423005001843C\n",
     "R 08\n",
     "H 010100000000\n",
+    "S 3E0E010000001A3702012A2A2A2A2A2A2A2A2A2A2A2A2A2A2A2A2A0100000000002E3C\n",
     "S 3E0E010000001C3702012A2A2A2A2A2A2A2A2A2A2A2A2A2A2A2A2A01000000022A2A00863C\n",
 ];
 
@@ -221,22 +222,25 @@ fn packed(l: &mut List) {
     }
 }
 
-/// The longest line that a session can have: 255 devices with names of 255 bytes, and all that is escaped which can be.
+/// The longest line that a session can have, and the longest that was written before, when names had lengths: 255 devices, there with names
+/// of 255 bytes, and all that is escaped which can be.
 fn longest(l: &mut List) {
-    // So many devices have another status, which moves the sum.
-    let devices = |others: usize| {
-        let mut p = vec![START, 0x02, 255];
-        for i in 0..255 {
-            p.extend([0x2A; 17]);
-            p.extend([if i < others { END } else { START }, END, SENTRY, START, 255]);
-            p.extend([0x2A; 255]);
-        }
-        p.push(END);
-        p
-    };
-    let line = |p: &Vec<u8>| format!("S {}\n", hex(&framed(0x0E, START, p)));
-    let p = (0..255).map(devices).find(|p| line(p).len() == 143_347).expect("a sum that is escaped");
-    whole(l, line(&p).as_bytes(), p.len());
+    for (name, longest) in [(0, 13_297), (255, 143_347)] {
+        // So many devices have another status, which moves the sum.
+        let devices = |others: usize| {
+            let mut p = vec![START, 0x02, 255];
+            for i in 0..255 {
+                p.extend([0x2A; 17]);
+                p.extend([if i < others { END } else { START }, END, SENTRY, START, name]);
+                p.extend(vec![0x2A; name.into()]);
+            }
+            p.push(END);
+            p
+        };
+        let line = |p: &Vec<u8>| format!("S {}\n", hex(&framed(0x0E, START, p)));
+        let p = (0..255).map(devices).find(|p| line(p).len() == longest).expect("a sum that is escaped");
+        whole(l, line(&p).as_bytes(), p.len());
+    }
 }
 
 /// Lines of the session with a byte or two changed, put in or left out, or cut, so that what comes out is any bytes.

@@ -14,11 +14,17 @@ pub fn list() -> (Vec<u8>, Vec<u8>) {
     let spans = spans([&stream[..]]);
     assert!(spans.iter().all(|s| s.len() <= MAX_BUFFER + 1));
     assert_eq!(spans, self::spans(stream.chunks(61)));
+    let log = log(&spans);
+    (stream, log)
+}
+
+/// The lines of these spans.
+fn log(spans: &[Vec<u8>]) -> Vec<u8> {
     let (plan, mut lines, mut log) = (house_plan(), Log::default(), Vec::new());
-    for span in &spans {
+    for span in spans {
         lines.line(&plan, span, &mut log);
     }
-    (stream, log)
+    log
 }
 
 /// The spans that the Rust's scanner finds.
@@ -50,6 +56,8 @@ fn stream() -> Vec<u8> {
     damaged(&mut s);
     mixed(&mut s);
     every_cut(&mut s);
+    name_lengths(&mut s);
+    twice(&mut s);
     // A frame whose end never comes.
     s.bytes.extend([END, START, 0x0C, 0, 0, 0, 0, 4, 0x23, 0]);
     s.bytes
@@ -73,14 +81,20 @@ impl Stream {
         self.add(framed(data_type, seq, payload));
     }
 
-    /// Bytes that begin no span.
     fn noise(&mut self) {
-        for _ in 0..self.c.below(12) {
-            let any = self.c.byte();
-            let b = self.c.of(&[0, END, SENTRY, 0x2C, 0x2E, 0xFF, any]);
-            self.bytes.push(if b == START { END } else { b });
-        }
+        let noise = noise(&mut self.c);
+        self.bytes.extend(noise);
     }
+}
+
+/// Bytes that begin no span.
+fn noise(c: &mut Choice) -> Vec<u8> {
+    let one = |c: &mut Choice| {
+        let any = c.byte();
+        let b = c.of(&[0, END, SENTRY, 0x2C, 0x2E, 0xFF, any]);
+        if b == START { END } else { b }
+    };
+    (0..c.below(12)).map(|_| one(c)).collect()
 }
 
 /// A body with its checksum, off by so much.
@@ -429,6 +443,79 @@ fn every_cut(s: &mut Stream) {
         s.bytes.extend(&all);
         assert!(s.bytes.len() <= 900_000);
     }
+}
+
+/// Names of every length from 0 to 255, each as the first, a middle and the last of 3 to 20 devices; and some lists of none, one and two.
+fn name_lengths(s: &mut Stream) {
+    for n in 0..=255 {
+        let mut names = vec![vec![]; 3 + n % 18];
+        let last = names.len() - 1;
+        for (at, len) in [(0, n), (1 + n % (last - 1), (n + 85) % 256), (last, (n + 170) % 256)] {
+            names[at] = rule(2 * len as u64, len);
+        }
+        let p = devices(&mut s.c, 0x37, &names);
+        s.frame(0x0E, &p);
+    }
+    for n in [0, 1, 31, 255] {
+        for names in [vec![], vec![vec![b'n'; n]], vec![vec![b'n'; n], vec![b'm'; 255 - n]]] {
+            let p = devices(&mut s.c, 0x39, &names);
+            s.frame(0x0E, &p);
+        }
+    }
+}
+
+/// A session twice. The second time the addresses, names and lengths of names are others, and so are the lengths of refused lists, the noise
+/// and what is wrong in a damaged frame; the public parts are the same, so that the lines are.
+fn twice(s: &mut Stream) {
+    let sessions = [61, 62].map(|own| session(&mut Choice::new(60), &mut Choice::new(own)));
+    let [first, second] = sessions.each_ref().map(|session| log(&spans([&session[..]])));
+    assert!(first == second, "the same lines");
+    assert_ne!(sessions[0].len(), sessions[1].len());
+    s.bytes.extend(sessions.concat());
+}
+
+/// A session: what is public, and what is its own.
+fn session(public: &mut Choice, own: &mut Choice) -> Vec<u8> {
+    let mut out = vec![END];
+    for n in 0..=20 {
+        for command in [0x37, 0x39] {
+            let seq = public.byte();
+            let mut p = vec![command, 0x02, n];
+            for _ in 0..n {
+                let any = own.byte();
+                let len = own.of(&[0, 1, 2, 31, END, SENTRY, START, 255, any]);
+                p.extend((0..17).map(|_| own.byte()));
+                p.push(public.of(&[0, 1, 2, END, SENTRY, START]));
+                p.extend((0..3).map(|_| public.byte()));
+                p.push(len);
+                p.extend((0..len).map(|_| own.byte()));
+            }
+            p.push(public.byte());
+            let cut = &p[..1 + own.below(p.len() - 1)];
+            let few = &cut[..cut.len().min(60)];
+            let more = vec![0; 1 + own.below(40)];
+            let off = 1 + own.below(255) as u8;
+            for span in [
+                framed(0x0E, seq, &p),
+                // Refused: cut, of another kind, and longer than a list of none.
+                framed(0x0E, seq, cut),
+                framed(0x0E, seq, &[&[command, 0x01], few].concat()),
+                framed(0x0E, seq, &[&[command, 0x02, 0, 0][..], &more].concat()),
+                // A false sum, a false length, and a bad escape.
+                escaped(&body(0x0E, seq, few.len() as u32, few, off)),
+                escaped(&body(0x0E, seq, few.len() as u32 + u32::from(off), few, 0)),
+                between_markers(&[&[0x0E; 8][..], &more, &[SENTRY, off & 0x0F]].concat()),
+                framed(0x01, seq, &[]),
+                framed(0x0C, seq, &[0x23, 0x00, public.byte(), 0x01]),
+                // Withheld: the length is public, what stands behind the command is not.
+                framed(0x0C, seq, &[0xA5, off, own.byte()]),
+            ] {
+                out.extend(noise(own));
+                out.extend(span);
+            }
+        }
+    }
+    out
 }
 
 /// Whether a piece ends here: they are of 1, 2, .. 97, 1, 2, .. bytes, so that 97 of them make 4,753.

@@ -1,0 +1,2 @@
+pub mod LawsMasked
+pub mod LawsShown
