@@ -41,12 +41,14 @@ enum mdr_refusal {
     MDR_LENGTH_MISMATCH = 16,  /* [declared, actual] */
     MDR_PAYLOAD_TOO_LONG = 17, /* above 4294967295 bytes */
     MDR_OUTPUT_TOO_SHORT = 18, /* escape, pack, ack, read_line */
-    MDR_OTHER_MESSAGE = 19,    /* not this decoder's message */
+    MDR_OTHER_MESSAGE = 19,    /* a payload of the right kind and length with other contents; of mdr_message an empty one */
     MDR_TOO_FEW_RECORDS = 20,
     MDR_NO_SUCH_DEVICE = 21,
     MDR_STEP_ZERO = 22,
-    MDR_NOT_TEXT = 23,  /* a setting's name or summary is not UTF-8 */
-    MDR_NOT_A_LINE = 24 /* none of the four forms of a log's line */
+    MDR_NOT_TEXT = 23,    /* a setting's name or summary is not UTF-8 */
+    MDR_NOT_A_LINE = 24,  /* none of the four forms of a log's line */
+    MDR_WRONG_KIND = 25,  /* a payload of fewer than 2 bytes, or of a kind that the decoder does not serve */
+    MDR_WRONG_LENGTH = 26 /* a served kind whose bytes run out, are too many, or do not match a count */
 };
 
 /* ---- frames ---- */
@@ -120,7 +122,10 @@ uint8_t mdr_seek(const uint8_t *bytes, size_t bytes_len, uint64_t *values, size_
 
 /* ---- readings ----
  *
- * `payload` is a frame's payload: command, kind, body. The command is not looked at. Refused by 19 where it is another message.
+ * `payload` is a frame's payload: command, kind, body. The command is not looked at.
+ *
+ * "Refused (25, 26)": by 25 where the payload has fewer than 2 bytes, an empty one too, or a kind that the call does not serve; then by 26
+ * where the bytes run out, are too many, or do not match the count or the lengths among them. What is named behind these is tried last.
  *
  * A character is one encoded code point (Unicode scalar value). How many there are is not the width on a screen: a letter and a combining
  * accent behind it are two. */
@@ -129,32 +134,33 @@ uint8_t mdr_seek(const uint8_t *bytes, size_t bytes_len, uint64_t *values, size_
 uint8_t mdr_message(const uint8_t *payload, size_t payload_len, uint64_t *values, size_t values_len);
 
 /* [level or 256, charging, threshold or 256] for each of main, left, right and case, so 12 numbers. An absent cell is [256, 256, 256].
- * Charging: 0 no, 1 yes, 2 unknown, 3 charged, 256 and the byte added for any other. */
+ * Charging: 0 no, 1 yes, 2 unknown, 3 charged, 256 and the byte added for any other. Each kind has one length. Refused (25, 26). */
 uint8_t mdr_battery(const uint8_t *payload, size_t payload_len, uint64_t *values, size_t values_len);
 
 /* [mode, mode byte or 256, ambient level or 256, focus on voice or 2, settled, adaptive or 2, sensitivity or 256].
- * Mode: 0 off, 1 noise cancelling, 2 ambient. */
+ * Mode: 0 off, 1 noise cancelling, 2 ambient. Each kind has one length. Refused (25, 26). */
 uint8_t mdr_noise(const uint8_t *payload, size_t payload_len, uint64_t *values, size_t values_len);
 
-/* [kind, count, then voice, min, max, step of each of two places], so 10 numbers. Places behind the count are 0. */
+/* [kind, count, then voice, min, max, step of each of two places], so 10 numbers. Places behind the count are 0. Refused (25, 26), then
+ * by 19 where the count is 0, a voice is above 1 or there twice, a min is above its max, or a step is 0. */
 uint8_t mdr_noise_capability(const uint8_t *payload, size_t payload_len, uint64_t *values, size_t values_len);
 
-/* [preset, count, bytes of the steps]. The steps stand in the payload from offset 4 on. */
+/* [preset, count, bytes of the steps]. The steps stand in the payload from offset 4 on. Refused (25, 26). */
 uint8_t mdr_equalizer(const uint8_t *payload, size_t payload_len, uint64_t *values, size_t values_len);
 
-/* [count] of paired devices. */
+/* [count] of paired devices. Refused (25, 26). */
 uint8_t mdr_paired_devices(const uint8_t *payload, size_t payload_len, uint64_t *values, size_t values_len);
 
 /* [offset of the address, status, detail 0, detail 1, detail 2, offset of the name, length of the name, characters of the name, or 256
  * where it is not UTF-8 (RFC 3629)]. Offsets are in the payload; an address has 17 bytes. The length counts bytes, at most 255; an empty
- * name has 0 characters. Refused by 19, or by 21 where the index is not below the count. */
+ * name has 0 characters. Refused (25, 26), then by 21 where the index is not below the count. */
 uint8_t mdr_paired_device(const uint8_t *payload, size_t payload_len, size_t index, uint64_t *values, size_t values_len);
 
 /* The length of the masked payload: each address is seventeen `*`, and each name is empty, its length 0. It stands at the front of
  * `payload`, and every byte behind it becomes zero. A payload that mdr_paired_devices refuses stays, and its own length is returned. */
 size_t mdr_mask_paired(uint8_t *payload, size_t payload_len);
 
-/* [count] of supported functions. */
+/* [count] of supported functions. Refused (25, 26). */
 uint8_t mdr_support_check(const uint8_t *payload, size_t payload_len, uint64_t *values, size_t values_len);
 
 struct mdr_support_function {
@@ -162,17 +168,18 @@ struct mdr_support_function {
     uint8_t priority;
 };
 
-/* [count] of functions. Writes them to the front of `records`; those behind stay. Refused (19, 20), `records` stays. `table` is 1 for
- * table One, anything else for table Two; it changes nothing in what is read. */
+/* [count] of functions. Writes them to the front of `records`; those behind stay. Refused (25, 26), then by 20 where there are fewer records
+ * than functions, `records` stays. `table` is 1 for table One, anything else for table Two; it changes nothing in what is read. */
 uint8_t mdr_support_functions(uint8_t table, const uint8_t *payload, size_t payload_len, struct mdr_support_function *records,
                               size_t records_len, uint64_t *values, size_t values_len);
 
-/* [slot, enabled]. */
+/* [slot, enabled]. The slot is the kind; any is served. Refused (25, 26: the body has two bytes), then by 19 where these are not 0 and then
+ * 0 or 1. */
 uint8_t mdr_general_setting(const uint8_t *payload, size_t payload_len, uint64_t *values, size_t values_len);
 
 /* [slot, offset of the name, length of the name, offset of the summary, length of the summary, characters of the name, characters of the
- * summary], so 7 numbers. Offsets are in the payload. Lengths count bytes and may be 0. Refused by 19, then by 23 where the name or the
- * summary is not UTF-8 (RFC 3629). */
+ * summary], so 7 numbers. Offsets are in the payload. Lengths count bytes and may be 0. Any kind is served. Refused (25, 26), then by 19
+ * where the body does not begin with 0 and then 0 or 1, then by 23 where the name or the summary is not UTF-8 (RFC 3629). */
 uint8_t mdr_general_setting_info(const uint8_t *payload, size_t payload_len, uint64_t *values, size_t values_len);
 
 /* [1, characters] of bytes that are UTF-8 (RFC 3629), or [0] of others. Takes any bytes; where there are none, [1, 0]. Never refuses: the

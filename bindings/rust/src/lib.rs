@@ -26,12 +26,17 @@ pub enum Refusal {
     LengthMismatch { declared: usize, actual: usize },
     PayloadTooLong,
     OutputTooShort,
+    /// a payload of the right kind and length with other contents; of `message` an empty one
     OtherMessage,
     TooFewRecords,
     NoSuchDevice,
     StepZero,
     NotText,
     NotALine,
+    /// fewer than two bytes, or a kind that the decoder does not serve; tried first
+    WrongKind,
+    /// a served kind whose bytes run out, are too many, or do not match a count; tried next
+    WrongLength,
     /// a status of a later library, which this crate has no name for
     Unlisted(u8),
 }
@@ -65,6 +70,8 @@ impl Refusal {
             22 => Refusal::StepZero,
             23 => Refusal::NotText,
             24 => Refusal::NotALine,
+            25 => Refusal::WrongKind,
+            26 => Refusal::WrongLength,
             other => Refusal::Unlisted(other),
         }
     }
@@ -96,6 +103,8 @@ impl Refusal {
             Refusal::StepZero => 22,
             Refusal::NotText => 23,
             Refusal::NotALine => 24,
+            Refusal::WrongKind => 25,
+            Refusal::WrongLength => 26,
             Refusal::Unlisted(number) => number,
         }
     }
@@ -126,12 +135,14 @@ impl std::fmt::Display for Refusal {
             }
             Refusal::PayloadTooLong => write!(f, "the payload is longer than 4294967295 bytes"),
             Refusal::OutputTooShort => write!(f, "the output is too short"),
-            Refusal::OtherMessage => write!(f, "the payload is not a message of this decoder"),
+            Refusal::OtherMessage => write!(f, "the payload is empty, or its contents are not those of this decoder's messages"),
             Refusal::TooFewRecords => write!(f, "the list has more functions than there are records"),
             Refusal::NoSuchDevice => write!(f, "the index is not below the count of devices"),
             Refusal::StepZero => write!(f, "the level lies within a range whose step is 0"),
             Refusal::NotText => write!(f, "the name or the summary of the setting is not UTF-8"),
             Refusal::NotALine => write!(f, "the bytes are not one line of a log, its newline included"),
+            Refusal::WrongKind => write!(f, "the payload has fewer than 2 bytes, or a kind that this decoder does not serve"),
+            Refusal::WrongLength => write!(f, "the payload is shorter or longer than its kind and its counts say"),
             Refusal::Unlisted(number) => write!(f, "refused by {number}, for which there is no name here"),
         }
     }
@@ -438,6 +449,7 @@ pub struct Message {
     pub len: usize,
 }
 
+/// Refused by `OtherMessage` where the payload is empty.
 pub fn message(payload: &[u8]) -> Result<Message, Refusal> {
     let v: [u64; 3] = told(|v, n| unsafe { sys::mdr_message(payload.as_ptr(), payload.len(), v, n) })?;
     Ok(Message { command: v[0] as u8, kind: byte(v[1]), len: v[2] as usize })
@@ -478,6 +490,7 @@ fn cell(v: &[u64]) -> Option<Cell> {
     Some(Cell { level: byte(v[0])?, charging, threshold: byte(v[2]) })
 }
 
+/// Refused by `WrongKind`, then by `WrongLength` where the payload does not have the length of its kind.
 pub fn battery(payload: &[u8]) -> Result<Battery, Refusal> {
     let v: [u64; 12] = told(|v, n| unsafe { sys::mdr_battery(payload.as_ptr(), payload.len(), v, n) })?;
     Ok(Battery { main: cell(&v[0..3]), left: cell(&v[3..6]), right: cell(&v[6..9]), case: cell(&v[9..12]) })
@@ -501,6 +514,7 @@ pub struct Noise {
     pub adaptive_sensitivity: Option<u8>,
 }
 
+/// Refused by `WrongKind`, then by `WrongLength` where the payload does not have the length of its kind.
 pub fn noise(payload: &[u8]) -> Result<Noise, Refusal> {
     let v: [u64; 7] = told(|v, n| unsafe { sys::mdr_noise(payload.as_ptr(), payload.len(), v, n) })?;
     let mode = match v[0] {
@@ -549,6 +563,8 @@ pub struct Capability {
     pub ranges: [Option<(bool, AmbientRange)>; 2],
 }
 
+/// Refused by `WrongKind`, then by `WrongLength` where the bytes do not match the count, then by `OtherMessage` where the count is 0, a
+/// voice is above 1 or there twice, a min is above its max, or a step is 0.
 pub fn noise_capability(payload: &[u8]) -> Result<Capability, Refusal> {
     let v: [u64; 10] = told(|v, n| unsafe { sys::mdr_noise_capability(payload.as_ptr(), payload.len(), v, n) })?;
     let range = |i: usize| {
@@ -564,6 +580,7 @@ pub struct Equalizer<'a> {
     pub steps: &'a [u8],
 }
 
+/// Refused by `WrongKind`, then by `WrongLength` where the bytes do not match the count.
 pub fn equalizer(payload: &[u8]) -> Result<Equalizer<'_>, Refusal> {
     let v: [u64; 3] = told(|v, n| unsafe { sys::mdr_equalizer(payload.as_ptr(), payload.len(), v, n) })?;
     Ok(Equalizer { preset: v[0] as u8, steps: &payload[4..4 + v[2] as usize] })
@@ -595,7 +612,7 @@ pub fn gain(count: usize, step: u8) -> i32 {
     unsafe { sys::mdr_gain(count, step) }
 }
 
-/// How many devices are paired.
+/// How many devices are paired. Refused by `WrongKind`, then by `WrongLength` where the bytes do not match the count and the names' lengths.
 pub fn paired_devices(payload: &[u8]) -> Result<usize, Refusal> {
     let v: [u64; 2] = told(|v, n| unsafe { sys::mdr_paired_devices(payload.as_ptr(), payload.len(), v, n) })?;
     Ok(v[0] as usize)
@@ -611,6 +628,7 @@ pub struct PairedDevice<'a> {
     pub characters: Option<u8>,
 }
 
+/// Refused as `paired_devices` is, then by `NoSuchDevice` where the index is not below the count.
 pub fn paired_device(payload: &[u8], index: usize) -> Result<PairedDevice<'_>, Refusal> {
     let v: [u64; 8] = told(|v, n| unsafe { sys::mdr_paired_device(payload.as_ptr(), payload.len(), index, v, n) })?;
     let part = |at: u64, len: u64| &payload[at as usize..(at + len) as usize];
@@ -631,7 +649,7 @@ pub fn mask_paired(payload: &mut [u8]) -> &mut [u8] {
     &mut payload[..len]
 }
 
-/// How many functions the list has.
+/// How many functions the list has. Refused by `WrongKind`, then by `WrongLength` where the bytes do not match the count.
 pub fn support_check(payload: &[u8]) -> Result<usize, Refusal> {
     let v: [u64; 2] = told(|v, n| unsafe { sys::mdr_support_check(payload.as_ptr(), payload.len(), v, n) })?;
     Ok(v[0] as usize)
@@ -643,7 +661,7 @@ pub enum Table {
     Two,
 }
 
-/// How many functions were written to the front of `records`.
+/// How many functions were written to the front of `records`. Refused as `support_check` is, then by `TooFewRecords`.
 pub fn support_functions(table: Table, payload: &[u8], records: &mut [SupportFunction]) -> Result<usize, Refusal> {
     let table = match table {
         Table::One => 1,
@@ -661,6 +679,8 @@ pub struct GeneralSetting {
     pub enabled: bool,
 }
 
+/// Any kind is a slot. Refused by `WrongKind` where there is none, then by `WrongLength` unless two bytes are behind it, then by
+/// `OtherMessage` where these are not 0 and then 0 or 1.
 pub fn general_setting(payload: &[u8]) -> Result<GeneralSetting, Refusal> {
     let v: [u64; 2] = told(|v, n| unsafe { sys::mdr_general_setting(payload.as_ptr(), payload.len(), v, n) })?;
     Ok(GeneralSetting { slot: v[0] as u8, enabled: v[1] == 1 })
@@ -677,6 +697,8 @@ pub struct GeneralSettingInfo<'a> {
     pub summary_characters: u8,
 }
 
+/// Any kind is a slot. Refused by `WrongKind` where there is none, then by `WrongLength` where the bytes do not match the lengths of both
+/// texts, then by `OtherMessage` where the first two behind the slot are not 0 and then 0 or 1, then by `NotText`.
 pub fn general_setting_info(payload: &[u8]) -> Result<GeneralSettingInfo<'_>, Refusal> {
     let v: [u64; 7] = told(|v, n| unsafe { sys::mdr_general_setting_info(payload.as_ptr(), payload.len(), v, n) })?;
     let part = |at: u64, len: u64| &payload[at as usize..(at + len) as usize];

@@ -85,8 +85,13 @@ fn refusals() {
     assert_eq!(Refusal::BadPlan.to_string(), "the plan does not have 512 entries, or one is above 8");
     assert_eq!(Refusal::NotALine.number(), 24);
     assert_eq!(Refusal::NotALine.to_string(), "the bytes are not one line of a log, its newline included");
-    assert_eq!(Refusal::Unlisted(25).number(), 25);
-    assert_eq!(Refusal::Unlisted(25).to_string(), "refused by 25, for which there is no name here");
+    assert_eq!((Refusal::OtherMessage.number(), Refusal::WrongKind.number(), Refusal::WrongLength.number()), (19, 25, 26));
+    let kind = "the payload has fewer than 2 bytes, or a kind that this decoder does not serve";
+    assert_eq!(battery(&[]).unwrap_err().to_string(), kind);
+    let length = "the payload is shorter or longer than its kind and its counts say";
+    assert_eq!(battery(&[0x23, 0x00]).unwrap_err().to_string(), length);
+    assert_eq!(Refusal::Unlisted(27).number(), 27);
+    assert_eq!(Refusal::Unlisted(27).to_string(), "refused by 27, for which there is no name here");
 }
 
 #[test]
@@ -256,14 +261,6 @@ fn setting_texts() {
     assert_eq!(general_setting_info(b"\xD1\xD2\x00\x01\x05\xC3\xA9t\xC3\xA9\x02Al"), Ok(info));
     let empty = GeneralSettingInfo { slot: 0xD1, name: "", summary: "", name_characters: 0, summary_characters: 0 };
     assert_eq!(general_setting_info(&[0xD1, 0xD1, 0x00, 0x00, 0, 0]), Ok(empty));
-
-    // Another type, another string format, a byte left over, a byte short, and nothing.
-    for other in [&[0xD1, 1, 1, 0, 0, 0][..], &[0xD1, 1, 0, 2, 0, 0], &[0xD1, 1, 0, 0, 0, 0, 0], &[0xD1, 1, 0, 0, 0], &[]] {
-        assert_eq!(general_setting_info(other), Err(Refusal::OtherMessage));
-    }
-    assert_eq!(general_setting_info(&[0xD1, 0xD1, 0, 0, 1, 0xFF, 0]), Err(Refusal::NotText));
-    assert_eq!(general_setting_info(&[0xD1, 0xD1, 0, 0, 0, 2, 0xC0, 0x80]), Err(Refusal::NotText));
-    assert_eq!(general_setting_info(&[0xD1, 0xD1, 0, 0, 1, 0xFF, 1]), Err(Refusal::OtherMessage));
 }
 
 #[test]
@@ -286,7 +283,6 @@ fn lists() {
     assert_eq!((eq_bias(10), eq_bias(6)), (6, 10));
     assert_eq!((gain(6, 0), gain(10, 255)), (-10, 249));
     assert_eq!(support_check(&[0x07, 0x00, 1, 0x22, 0x01]), Ok(1));
-    assert_eq!(support_check(&[0x07, 0x00, 2, 0x22, 0x01]), Err(Refusal::OtherMessage));
 }
 
 #[test]
@@ -453,6 +449,117 @@ fn support_lists() {
     assert_eq!(support_functions(Table::Two, &[0x07, 0x00, 1, 0x22, 0x01], &mut records), Ok(1));
     assert_eq!(records, [SupportFunction { code: 0x22, priority: 0x01 }, rest]);
     assert_eq!(support_functions(Table::One, &[0x07, 0x00, 1, 0x22, 0x01], &mut []), Err(Refusal::TooFewRecords));
+}
+
+/// Each payload with what a call refuses it by; and those without a kind.
+fn refused(call: impl Fn(&[u8]) -> Option<Refusal>, payloads: &[(&[u8], Refusal)]) {
+    for (payload, refusal) in payloads {
+        assert_eq!(call(payload), Some(*refusal), "{payload:02X?}");
+    }
+    for short in [&[][..], &[0x00], &[0x37]] {
+        assert_eq!(call(short), Some(Refusal::WrongKind), "{short:02X?}");
+    }
+}
+
+#[test]
+fn causes_of_fixed_readings() {
+    use Refusal::{OtherMessage, WrongKind, WrongLength};
+    let payloads: &[(&[u8], Refusal)] = &[
+        (&[0x23, 0x03, 0x50, 0x01], WrongKind),
+        (&[0x23, 0x00], WrongLength),
+        (&[0x23, 0x00, 0x50], WrongLength),
+        (&[0x23, 0x00, 0x50, 0x01, 0x1E], WrongLength),
+        (&[0x23, 0x09, 1, 0, 2, 7, 3], WrongLength),
+    ];
+    refused(|p| battery(p).err(), payloads);
+    let payloads: &[(&[u8], Refusal)] = &[
+        (&[0x67, 0x14, 0x01, 0x00, 0x00, 0x01, 0x05], WrongKind),
+        (&[0x67, 0x17], WrongLength),
+        (&[0x67, 0x17, 0x01, 0x00, 0x00, 0x01], WrongLength),
+        (&[0x67, 0x17, 0x01, 0x00, 0x00, 0x01, 0x05, 0x00], WrongLength),
+    ];
+    refused(|p| noise(p).err(), payloads);
+    let payloads: &[(&[u8], Refusal)] = &[
+        (&[0xD7, 0x00], WrongLength),
+        (&[0xD7, 0xD1, 0x01], WrongLength),
+        (&[0xD7, 0xD1, 0x01, 0x02, 0x00], WrongLength),
+        (&[0xD7, 0xD1, 0x01, 0x00], OtherMessage),
+        (&[0xD7, 0xD1, 0x00, 0x02], OtherMessage),
+    ];
+    refused(|p| general_setting(p).err(), payloads);
+}
+
+#[test]
+fn causes_of_counted_readings() {
+    use Refusal::{NoSuchDevice, OtherMessage, TooFewRecords, WrongKind, WrongLength};
+    let payloads: &[(&[u8], Refusal)] = &[
+        (&[0x61, 0x12, 1, 1, 0, 20, 5], WrongKind),
+        (&[0x61, 0x1A], WrongKind),
+        (&[0x61, 0x19], WrongLength),
+        (&[0x61, 0x19, 2, 1, 0, 20, 5], WrongLength),
+        (&[0x61, 0x19, 1, 2, 0, 20, 5, 0], WrongLength),
+        (&[0x61, 0x19, 0, 0], WrongLength),
+        (&[0x61, 0x19, 0], OtherMessage),
+        (&[0x61, 0x19, 1, 2, 0, 20, 5], OtherMessage),
+        (&[0x61, 0x19, 1, 1, 21, 20, 5], OtherMessage),
+        (&[0x61, 0x19, 1, 1, 0, 20, 0], OtherMessage),
+        (&[0x61, 0x19, 2, 1, 0, 20, 5, 1, 0, 20, 5], OtherMessage),
+    ];
+    refused(|p| noise_capability(p).err(), payloads);
+    let payloads: &[(&[u8], Refusal)] = &[
+        (&[0x57, 0x01, 0xA0, 0], WrongKind),
+        (&[0x57, 0x00, 0xA0], WrongLength),
+        (&[0x57, 0x00, 0xA0, 2, 7], WrongLength),
+        (&[0x57, 0x00, 0xA0, 0, 7], WrongLength),
+    ];
+    refused(|p| equalizer(p).err(), payloads);
+
+    let support: &[(&[u8], Refusal)] = &[
+        (&[0x07, 0x01, 1, 0x22, 0x01], WrongKind),
+        (&[0x07, 0x00], WrongLength),
+        (&[0x07, 0x00, 2, 0x22, 0x01], WrongLength),
+        (&[0x07, 0x00, 1, 0x22, 0x01, 0x23], WrongLength),
+    ];
+    refused(|p| support_check(p).err(), support);
+    refused(|p| support_functions(Table::One, p, &mut []).err(), support);
+    refused(|p| support_functions(Table::One, p, &mut []).err(), &[(&[0x07, 0x00, 1, 0x22, 0x01], TooFewRecords)]);
+
+    let other = [&[0x37, 0x03], &DEVICES[2..]].concat();
+    let longer = [DEVICES, &[0]].concat();
+    let devices: &[(&[u8], Refusal)] = &[
+        (&other, WrongKind),
+        (&[0x37, 0x02], WrongLength),
+        (&[0x37, 0x02, 0], WrongLength),
+        (&[0x37, 0x02, 0, 0, 0], WrongLength),
+        (&DEVICES[..DEVICES.len() - 1], WrongLength),
+        (&longer, WrongLength),
+    ];
+    refused(|p| paired_devices(p).err(), devices);
+    for index in [0, 1, 2, usize::MAX] {
+        refused(|p| paired_device(p, index).err(), devices);
+    }
+    refused(|p| paired_device(p, 1).err(), &[(DEVICES, NoSuchDevice), (&[0x37, 0x02, 0, 0], NoSuchDevice)]);
+}
+
+#[test]
+fn causes_of_setting_texts() {
+    use Refusal::{NotText, OtherMessage, WrongLength};
+    let payloads: &[(&[u8], Refusal)] = &[
+        (&[0xD1, 0x00], WrongLength),
+        (&[0xD1, 0xD1, 0, 0, 0], WrongLength),
+        (&[0xD1, 0xD1, 0, 0, 0, 0, 0], WrongLength),
+        (&[0xD1, 0xD1, 0, 0, 1, 0xFF, 1], WrongLength),
+        (&[0xD1, 0xD1, 1, 2, 0, 1], WrongLength),
+        // The original, which counts the repaired text, reads it.
+        (&[0xD1, 0xD1, 0, 0, 0, 1, 0xFF, 0, 0], WrongLength),
+        (&[0xD1, 0xD1, 1, 0, 0, 0], OtherMessage),
+        (&[0xD1, 0xD1, 0, 2, 0, 0], OtherMessage),
+        (&[0xD1, 0xD1, 1, 0, 1, 0xFF, 0], OtherMessage),
+        (&[0xD1, 0xD1, 0, 0, 1, 0xFF, 0], NotText),
+        (&[0xD1, 0xD1, 0, 0, 0, 2, 0xC0, 0x80], NotText),
+        (&[0xD1, 0xD1, 0, 0, 0, 3, 0xF0, 0x90, 0x80], NotText),
+    ];
+    refused(|p| general_setting_info(p).err(), payloads);
 }
 
 #[test]

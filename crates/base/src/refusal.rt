@@ -27,6 +27,8 @@ pub enum Refusal {
     StepZero,
     NotText,
     NotALine,
+    WrongKind,
+    WrongLength,
 }
 
 impl Refusal {
@@ -65,6 +67,8 @@ impl Refusal {
             Refusal::StepZero => 22,
             Refusal::NotText => 23,
             Refusal::NotALine => 24,
+            Refusal::WrongKind => 25,
+            Refusal::WrongLength => 26,
         }
     }
 }

@@ -104,19 +104,19 @@ pub fn decode_battery(payload: &[u8]) -> BatteryAnswer
 {
     let len = payload.len();
     if len < 2 {
-        return BatteryAnswer::Refused(Refusal::OtherMessage);
+        return BatteryAnswer::Refused(Refusal::WrongKind);
     }
     // An arm that returns writes its answer in place.
     match payload[1] {
         0x00 => {
             if len != 4 {
-                return BatteryAnswer::Refused(Refusal::OtherMessage);
+                return BatteryAnswer::Refused(Refusal::WrongLength);
             }
             return main_only(cell_at(payload, 0, OptionByte::NoByte));
         }
         0x01 => {
             if len != 6 {
-                return BatteryAnswer::Refused(Refusal::OtherMessage);
+                return BatteryAnswer::Refused(Refusal::WrongLength);
             }
             let left = cell_at(payload, 0, OptionByte::NoByte);
             let right = cell_at(payload, 2, OptionByte::NoByte);
@@ -124,19 +124,19 @@ pub fn decode_battery(payload: &[u8]) -> BatteryAnswer
         }
         0x02 => {
             if len != 4 {
-                return BatteryAnswer::Refused(Refusal::OtherMessage);
+                return BatteryAnswer::Refused(Refusal::WrongLength);
             }
             return case_only(cell_at(payload, 0, OptionByte::NoByte));
         }
         0x08 => {
             if len != 5 {
-                return BatteryAnswer::Refused(Refusal::OtherMessage);
+                return BatteryAnswer::Refused(Refusal::WrongLength);
             }
             return main_only(cell_at(payload, 0, OptionByte::Byte(payload[4])));
         }
         0x09 => {
             if len != 8 {
-                return BatteryAnswer::Refused(Refusal::OtherMessage);
+                return BatteryAnswer::Refused(Refusal::WrongLength);
             }
             let left = cell_at(payload, 0, OptionByte::Byte(payload[6]));
             let right = cell_at(payload, 2, OptionByte::Byte(payload[7]));
@@ -144,10 +144,10 @@ pub fn decode_battery(payload: &[u8]) -> BatteryAnswer
         }
         0x0A => {
             if len != 5 {
-                return BatteryAnswer::Refused(Refusal::OtherMessage);
+                return BatteryAnswer::Refused(Refusal::WrongLength);
             }
             return case_only(cell_at(payload, 0, OptionByte::Byte(payload[4])));
         }
-        _ => BatteryAnswer::Refused(Refusal::OtherMessage),
+        _ => BatteryAnswer::Refused(Refusal::WrongKind),
     }
 }

@@ -11,8 +11,10 @@ use lib.Dec.{lit≤, lit<}
 use lib.ListN.{length, take, drop, getD, set, drop-of-length-le}
 use lib.Seq.{drop-cons, getD-take, length-take-le, take-suc-set}
 use Rattle.base.specs.Outcome.{Outcome, refused}
+use Rattle.reading.proofs.LawsItems.{walk-fixed, own-fixed}
+use Rattle.reading.proofs.LawsReading.{OneLength, one-length, steady-counted}
 use Rattle.range.specs.declared.range.AmbientRange.{AmbientRange}
-use Rattle.capability.specs.Capability.{Capability, capabilityTold, capabilityReport, heard, rangesFrom, rangesOf, blank, held, Reported, elementOf, elementTold}
+use Rattle.capability.specs.Capability.{Capability, capabilityTold, capabilityReport, heard, rangesFrom, rangesOf, blank, held, Reported, capabilityOf, elementOf, elementTold}
 use Rattle.capability.specs.declared.capability.CapabilityAnswer.the-variants.{Kind}
 use Rattle.capability.specs.declared.capability.NoiseCapability.{NoiseCapability}
 use Rattle.capability.specs.declared.capability.Element.{Element}
@@ -97,21 +99,25 @@ module _ {p : List ℕ} {count : ℕ} {rs : List AmbientRange} {i : ℕ} (so : S
     module _ {e : Element} (told : elementTold e ≡ elementOf p (3 + 4 * i)) where
       pub not-range : e ≡ Bad → rangesFrom p [] count ≡ refused 19 []
       unfolding rangesFrom Option·elim
-      not-range b = rw (← so .rest, one-more, length-seen, ← told, b)
+      not-range b = rw (← so .rest, one-more, length-seen, walk-fixed 4 p i 3, ← told, b)
 
       module _ {r : AmbientRange} (b : e ≡ Range r) where
         pub twice : heard (r .voice) (take i rs) ≡ true → rangesFrom p [] count ≡ refused 19 []
         unfolding rangesFrom Option·elim
-        twice h = rw (← so .rest, one-more, length-seen, ← told, b, h)
+        twice h = rw (← so .rest, one-more, length-seen, walk-fixed 4 p i 3, ← told, b, h)
 
         pub next : heard (r .voice) (take i rs) ≡ false → SoFar p count (set rs i r) (i + 1)
         unfolding rangesFrom Option·elim
         next h = record {
           within = omega arith;
           held = more r (so .held) h;
-          rest = sym (rw (← so .rest, one-more, length-seen, ← told, b, h, add-one i, take-suc-set rs i r (omega (arith, room (r .voice) (so .held) h, places (so .held)))));
+          rest = sym (rw (← so .rest, one-more, length-seen, walk-fixed 4 p i 3, ← told, b, h, add-one i, take-suc-set rs i r (omega (arith, room (r .voice) (so .held) h, places (so .held)))));
         }
 
 -- what is reported of an outcome is reported of the payload that has it
 pub reports : {r : NoiseCapability} {o q : Outcome Capability} → Reported r o → q ≡ o → (capabilityTold r ≡ q) × (r .report ≡ capabilityReport q)
 reports s e = rw e (s .told, s .report)
+
+pub capability-length : OneLength capabilityOf
+unfolding capabilityOf
+capability-length = one-length _ _ _ (steady-counted 2 (own-fixed 4) 0)

@@ -1,1 +1,2 @@
 pub mod LawsCapability
+pub mod CasesCapability

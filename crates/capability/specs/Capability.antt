@@ -1,5 +1,5 @@
 -- 01, "Messages and decoders": `decode_noise_capability`.
-use Prim.Native.Nat.{ℕ, zero, suc, _+_, _*_}
+use Prim.Native.Nat.{ℕ, zero, suc, _+_}
 use mathlib.Core.Bool.{Bool, false, _&&_, _||_, not, Bool·beq}
 use mathlib.Core.Path.{_≡_}
 use mathlib.Core.List.{List, [], _∷_, _++_}
@@ -9,7 +9,7 @@ use lib.ListN.{length, getD, take, drop}
 use Rattle.base.specs.Outcome.{Outcome, accepted, refused, pick, onAccepted}
 use Rattle.base.specs.Refusal.{refusalTold}
 use Rattle.reading.specs.Message.{kindOf}
-use Rattle.reading.specs.Items.{fixed, counted}
+use Rattle.reading.specs.Items.{Items, fixed, counted, itemAt}
 use Rattle.reading.specs.Reading.{readingOf}
 use Rattle.range.specs.declared.range.AmbientRange.{AmbientRange}
 use Rattle.capability.specs.declared.capability.CapabilityAnswer.{CapabilityAnswer}
@@ -53,20 +53,24 @@ abbrev pub heard : Bool → List AmbientRange → Bool
 heard voice [] = false
 heard voice (r ∷ rs) = Bool·beq (r .voice) voice || heard voice rs
 
+-- "a count .., then four bytes each .., nothing more"
+abbrev pub elements : List ℕ → Items
+elements = counted 2 (fixed 4) 0
+
 -- "no voice value twice": the ranges seen, and so many elements more
 unfoldable pub rangesFrom : List ℕ → (seen : List AmbientRange) → ℕ → Outcome (List AmbientRange)
 rangesFrom p seen zero = accepted seen
 rangesFrom p seen (suc left) =
-    Option·elim (elementOf p (3 + 4 * length seen)) (refused 19 [])
+    Option·elim (elementOf p (itemAt (elements p) p (length seen))) (refused 19 [])
     (λ r. pick (heard (r .voice) seen) (refused 19 []) (rangesFrom p (seen ++ r ∷ []) left))
 
 -- the kind with its ranges
 abbrev pub rangesOf : List ℕ → (kind count : ℕ) → Outcome Capability
 rangesOf p kind count = onAccepted (λ rs. record { kind = kind; ranges = rs }) (rangesFrom p [] count)
 
--- "a count above 0, then four bytes each .., nothing more"
+-- "a count above 0"
 unfoldable pub capabilityOf : List ℕ → Outcome Capability
-capabilityOf = readingOf capabilityKind (counted 2 (fixed 4) 0) (λ p. pick (eqb (getD p 2 0) 0) (refused 19 []) (rangesOf p (kindOf p) (getD p 2 0)))
+capabilityOf = readingOf capabilityKind elements (λ p. pick (eqb (getD p 2 0) 0) (refused 19 []) (rangesOf p (kindOf p) (getD p 2 0)))
 
 -- at most two ranges, held in one record: the places behind them are zero
 abbrev pub blank : AmbientRange

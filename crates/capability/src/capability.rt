@@ -127,18 +127,18 @@ pub fn decode_noise_capability(payload: &[u8]) -> NoiseCapability
     ensures { λ r. ⌜ r .report ≡ capabilityReport (capabilityOf (now (payload .entry))) ⌝ }
 {
     if payload.len() < 2 {
-        return refuse(Refusal::OtherMessage);
+        return refuse(Refusal::WrongKind);
     }
     let kind = payload[1];
     if !has_ranges(kind) {
-        return refuse(Refusal::OtherMessage);
+        return refuse(Refusal::WrongKind);
     }
     if payload.len() < 3 {
-        return refuse(Refusal::OtherMessage);
+        return refuse(Refusal::WrongLength);
     }
     let count = payload[2] as usize;
     if payload.len() - 3 != 4 * count {
-        return refuse(Refusal::OtherMessage);
+        return refuse(Refusal::WrongLength);
     }
     if count == 0 {
         return refuse(Refusal::OtherMessage);

@@ -13,7 +13,8 @@ use mir.Val.{SFits, toZ, ofZ}
 use mir.Facts.{toZ-pos}
 use borrow.Author.Tests.{ltb-true, ltb-false}
 use Rattle.base.specs.Outcome.{Outcome, accepted, refused}
-use Rattle.reading.proofs.LawsReading.{was-counted}
+use Rattle.reading.proofs.LawsItems.{own-fixed}
+use Rattle.reading.proofs.LawsReading.{was-counted, OneLength, one-length, steady-counted}
 use Rattle.equalizer.specs.Equalizer.{EqReport, equalizerOf, stepsOf, biasOf}
 use Rattle.equalizer.specs.declared.equalizer.EqShape.{EqShape}
 use Rattle.equalizer.specs.declared.equalizer.EqShape.the-variants.{ClearBassAndFive, TenBands, Unknown}
@@ -28,6 +29,10 @@ steps-place p r e =
     countIn : Outcome EqReport → ℕ
     countIn (accepted r) = r .count
     countIn (refused n vs) = 0
+
+pub equalizer-length : OneLength equalizerOf
+unfolding equalizerOf
+equalizer-length = one-length _ _ _ (steady-counted 3 (own-fixed 1) 0)
 
 -- a shape's bias is 6 or 10
 by-bias : (P : ℤ → Type 0) → P (pos 6) → P (pos 10) → (s : EqShape) → P (biasOf s)

@@ -20,17 +20,17 @@ pub fn decode_equalizer(payload: &[u8]) -> EqAnswer
     ensures { λ r. ⌜ eqTold r ≡ equalizerOf (now (payload .entry)) ⌝ }
 {
     if payload.len() < 2 {
-        return EqAnswer::Refused(Refusal::OtherMessage);
+        return EqAnswer::Refused(Refusal::WrongKind);
     }
     if payload[1] != 0x00 {
-        return EqAnswer::Refused(Refusal::OtherMessage);
+        return EqAnswer::Refused(Refusal::WrongKind);
     }
     if payload.len() < 4 {
-        return EqAnswer::Refused(Refusal::OtherMessage);
+        return EqAnswer::Refused(Refusal::WrongLength);
     }
     let count = payload[3] as usize;
     if payload.len() - 4 != count {
-        return EqAnswer::Refused(Refusal::OtherMessage);
+        return EqAnswer::Refused(Refusal::WrongLength);
     }
     EqAnswer::Report {
         preset: payload[2],

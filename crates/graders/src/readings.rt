@@ -5,9 +5,9 @@ use crate::counts::functions_report;
 use crate::levels::battery_report;
 use crate::levels::capability_report;
 use crate::levels::noise_report;
+use crate::rules::cause;
 use crate::rules::refusal;
 use crate::rules::refused;
-use crate::rules::rule;
 use crate::say::byte;
 use crate::say::part;
 use crate::say::say;
@@ -75,26 +75,26 @@ fn no_entry(command: u8) {
     byte(command);
 }
 
-fn withheld(decoder: &[u8], r: Refusal) {
+fn withheld(decoder: &[u8], r: Refusal, payload: &[u8]) {
     say(b"withheld, ");
     refused(r);
     say(b" by the ");
     say(decoder);
     say(b" decoder: ");
-    rule(r);
+    cause(r, payload);
 }
 
 fn battery(payload: &[u8]) {
     match payload::decode_battery(payload) {
         BatteryAnswer::Report(r) => battery_report(r),
-        BatteryAnswer::Refused(r) => withheld(b"battery", r),
+        BatteryAnswer::Refused(r) => withheld(b"battery", r, payload),
     }
 }
 
 fn noise(payload: &[u8]) {
     match payload::decode_noise(payload) {
         NoiseAnswer::Report(r) => noise_report(r),
-        NoiseAnswer::Refused(r) => withheld(b"noise control", r),
+        NoiseAnswer::Refused(r) => withheld(b"noise control", r, payload),
     }
 }
 
@@ -104,7 +104,7 @@ fn capability(payload: &[u8]) {
     let report = c.report;
     match answer {
         CapabilityAnswer::Kind(kind) => capability_report(kind, report),
-        CapabilityAnswer::Refused(r) => withheld(b"capability", r),
+        CapabilityAnswer::Refused(r) => withheld(b"capability", r, payload),
     }
 }
 
@@ -113,7 +113,7 @@ fn equalizer(payload: &[u8]) {
         EqAnswer::Report { preset, count: _ } => {
             equalizer_report(preset, lists::equalizer_steps(payload))
         }
-        EqAnswer::Refused(r) => withheld(b"equalizer", r),
+        EqAnswer::Refused(r) => withheld(b"equalizer", r, payload),
     }
 }
 
@@ -121,7 +121,7 @@ fn paired(payload: &[u8]) {
     match paired::decode_paired_devices(payload) {
         PairedDevices::Count(count) => devices_report(count as usize, payload),
         PairedDevices::Refused(r) => {
-            withheld(b"paired device", r);
+            withheld(b"paired device", r, payload);
             say(b"; its length is not told");
         }
     }
@@ -137,20 +137,20 @@ fn functions(table: Table, payload: &[u8]) {
     let records = d.records;
     match answer {
         SupportAnswer::Functions { table: of, count } => functions_report(of, count, records),
-        SupportAnswer::Refused(r) => withheld(b"support function", r),
+        SupportAnswer::Refused(r) => withheld(b"support function", r, payload),
     }
 }
 
 fn setting(payload: &[u8]) {
     match payload::decode_general_setting_param(payload) {
         SettingAnswer::Param(p) => setting_param(p),
-        SettingAnswer::Refused(r) => withheld(b"setting", r),
+        SettingAnswer::Refused(r) => withheld(b"setting", r, payload),
     }
 }
 
 fn setting_texts(payload: &[u8]) {
     match setting_info::decode_general_setting_info(payload) {
         SettingInfoAnswer::Info(s) => general_setting(s, payload),
-        SettingInfoAnswer::Refused(r) => withheld(b"setting text", r),
+        SettingInfoAnswer::Refused(r) => withheld(b"setting text", r, payload),
     }
 }

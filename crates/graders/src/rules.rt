@@ -37,13 +37,41 @@ pub fn rule(r: Refusal) {
         Refusal::LengthMismatch { declared, actual } => lengths(declared, actual),
         Refusal::PayloadTooLong => say(b"the payload has more than 4294967295 bytes"),
         Refusal::OutputTooShort => say(b"the output is too short"),
-        Refusal::OtherMessage => say(b"kind, length or contents are not those of its messages"),
+        Refusal::OtherMessage => say(
+            b"kind and length are those of its messages, the contents are not",
+        ),
         Refusal::TooFewRecords => say(b"the list is longer than the records"),
         Refusal::NoSuchDevice => say(b"the list has no such device"),
         Refusal::StepZero => say(b"the range has the step 0"),
         Refusal::NotText => say(b"a text is not UTF-8 (RFC 3629)"),
         Refusal::NotALine => say(b"not a line of a log"),
+        Refusal::WrongKind => say(b"under two bytes, or a kind that it does not read"),
+        Refusal::WrongLength => say(b"the bytes run out, are too many or do not match the count"),
     }
+}
+
+// Why a decoder refuses a payload.
+pub fn cause(r: Refusal, payload: &[u8]) {
+    match r {
+        Refusal::WrongKind => other_kind(payload),
+        Refusal::WrongLength => other_length(payload),
+        _ => rule(r),
+    }
+}
+
+fn other_kind(payload: &[u8]) {
+    if payload.len() < 2 {
+        say(b"the payload ends before its kind");
+        return;
+    }
+    say(b"it does not read the kind ");
+    byte(payload[1]);
+}
+
+fn other_length(payload: &[u8]) {
+    say(b"the ");
+    number(payload.len());
+    say(b" bytes of the payload run out, are too many or do not match the count");
 }
 
 fn escapee(b: u8) {

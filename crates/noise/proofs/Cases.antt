@@ -1,10 +1,11 @@
--- 01's marked case of this reading, computed.
+-- 01's marked case of this reading, computed; and 02, C-16: a kind has one length.
 use mathlib.Core.Path.{_≡_, refl}
 use mathlib.Core.Bool.{true}
 use mathlib.Core.List.{[], _∷_}
 use Rattle.base.specs.Outcome.{accepted}
 use Rattle.reading.specs.Items.{walk}
 use Rattle.reading.specs.Reading.{readingOf}
+use Rattle.reading.proofs.LawsReading.{OneLength, layout-length}
 use Rattle.reading.specs.declared.message.OptionByte.the-variants.{Byte, NoByte}
 use Rattle.noise.specs.Noise.{noiseLayout, noiseOf}
 use Rattle.noise.specs.declared.noise.NoiseMode.the-variants.{Off}
@@ -24,3 +25,7 @@ pub case-i :
     })
 unfolding noiseOf noiseLayout readingOf walk
 case-i = refl
+
+pub noise-length : OneLength noiseOf
+unfolding noiseOf
+noise-length = layout-length noiseLayout

@@ -165,19 +165,19 @@ pub fn decode_noise(payload: &[u8]) -> NoiseAnswer
 {
     let len = payload.len();
     if len < 2 {
-        return NoiseAnswer::Refused(Refusal::OtherMessage);
+        return NoiseAnswer::Refused(Refusal::WrongKind);
     }
     // An arm that returns writes its answer in place.
     match payload[1] {
         0x15 | 0x17 => {
             if len != 7 {
-                return NoiseAnswer::Refused(Refusal::OtherMessage);
+                return NoiseAnswer::Refused(Refusal::WrongLength);
             }
             return full(payload, OptionByte::NoByte, OptionByte::NoByte);
         }
         0x19 => {
             if len != 9 {
-                return NoiseAnswer::Refused(Refusal::OtherMessage);
+                return NoiseAnswer::Refused(Refusal::WrongLength);
             }
             return full(
                 payload,
@@ -187,22 +187,22 @@ pub fn decode_noise(payload: &[u8]) -> NoiseAnswer
         }
         0x22 => {
             if len != 6 {
-                return NoiseAnswer::Refused(Refusal::OtherMessage);
+                return NoiseAnswer::Refused(Refusal::WrongLength);
             }
             return ambient_only(payload);
         }
         0x13 => {
             if len != 7 {
-                return NoiseAnswer::Refused(Refusal::OtherMessage);
+                return NoiseAnswer::Refused(Refusal::WrongLength);
             }
             return switch_and_ambient(payload);
         }
         0x01 => {
             if len != 5 {
-                return NoiseAnswer::Refused(Refusal::OtherMessage);
+                return NoiseAnswer::Refused(Refusal::WrongLength);
             }
             return switch_only(payload);
         }
-        _ => NoiseAnswer::Refused(Refusal::OtherMessage),
+        _ => NoiseAnswer::Refused(Refusal::WrongKind),
     }
 }

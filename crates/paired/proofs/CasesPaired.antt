@@ -10,6 +10,6 @@ pub no-devices : pairedOf (0x37 ∷ 0x02 ∷ 0x00 ∷ 0x00 ∷ []) ≡ accepted 
 unfolding readingOf walk
 no-devices = refl
 
-pub no-last-byte : pairedOf (0x37 ∷ 0x02 ∷ 0x00 ∷ []) ≡ refused 19 []
+pub no-last-byte : pairedOf (0x37 ∷ 0x02 ∷ 0x00 ∷ []) ≡ refused 26 []
 unfolding readingOf walk
 no-last-byte = refl

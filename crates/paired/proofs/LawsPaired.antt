@@ -1,31 +1,17 @@
--- Laws of an accepted list of devices.
-use Prim.Native.Nat.{ℕ, _+_, _≤_, _<_, min}
+-- Laws of the list of devices.
+use Prim.Native.Nat.{ℕ, _+_, _≤_}
 use mathlib.Core.Path.{_≡_}
 use mathlib.Core.List.{List}
 use native.Mathlib.Omega.{arith}
-use lib.ListN.{length, take, drop, length-take}
-use Rattle.base.specs.Outcome.{accepted}
-use Rattle.reading.specs.Items.{headed}
-use Rattle.reading.proofs.LawsItems.{apart}
-use Rattle.reading.proofs.LawsReading.{was-read}
+use lib.ListN.{take, drop, length-take}
+use Rattle.reading.proofs.LawsItems.{own-headed}
+use Rattle.reading.proofs.LawsReading.{OneLength, one-length, steady-counted}
 use Rattle.text.proofs.LawsCharacters.{at-most}
 use Rattle.text.specs.declared.text.Characters.the-variants.{Number}
-use Rattle.paired.specs.Paired.{nameLength, deviceEnd, countOf, startOf, pairedOf, deviceAt}
+use Rattle.paired.specs.Paired.{nameLength, pairedOf, deviceAt}
 
--- there are as many devices as its count says, and one byte behind them
-pub was-accepted : (p : List ℕ) (n : ℕ) → pairedOf p ≡ accepted n → (countOf p ≡ n) × (startOf p n + 1 ≡ length p)
-was-accepted p n t =
-    let w = was-read _ _ _ p n t in
-    let e : countOf p ≡ n = cc in
-    (e, rw e at (w .0 .ends))
-
--- every device lies in the payload, with a byte behind it
-pub in-bounds : (p : List ℕ) (n k : ℕ) → pairedOf p ≡ accepted n → k < n → deviceEnd p (startOf p k) < length p
-in-bounds p n k t h = omega (arith, apart (headed 21) p k n 3 h, was-accepted p n t .1)
-
--- the walk to it, cut at the payload's length, reaches it
-pub reached : (p : List ℕ) (n k : ℕ) → pairedOf p ≡ accepted n → k < n → min (startOf p k) (length p) ≡ startOf p k
-reached p n k t h = omega (arith, in-bounds p n k t h)
+pub paired-length : OneLength pairedOf
+paired-length = one-length _ _ _ (steady-counted 2 (own-headed 21) 1)
 
 -- a name has no more characters than bytes, so 256, which no length byte holds, is free to stand for no text
 pub name-characters : (p : List ℕ) (at n : ℕ) → deviceAt p at .characters ≡ Number n → n ≤ nameLength p at

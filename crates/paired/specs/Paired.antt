@@ -5,8 +5,8 @@ use lib.ListN.{getD, take, drop}
 use lib.Dec.{ltb, eqb}
 use Rattle.base.specs.Outcome.{Outcome, accepted, refused, pick}
 use Rattle.base.specs.Refusal.{refusalTold}
-use Rattle.reading.specs.Items.{headed, walk, counted}
-use Rattle.reading.specs.Reading.{readingOf}
+use Rattle.reading.specs.Items.{headed, counted, itemAt}
+use Rattle.reading.specs.Reading.{countReading}
 use Rattle.text.specs.Text.{charactersOf}
 use Rattle.paired.specs.declared.paired.PairedDevices.{PairedDevices}
 use Rattle.paired.specs.declared.paired.PairedDevices.the-variants.{Count, Refused}
@@ -21,16 +21,13 @@ nameLength payload at = getD payload (at + 21) 0
 abbrev pub deviceEnd : List ℕ → ℕ → ℕ
 deviceEnd payload at = at + headed 21 payload at
 
--- the count, and where the device of an index begins
-abbrev pub countOf : List ℕ → ℕ
-countOf payload = getD payload 2 0
-
-abbrev pub startOf : List ℕ → ℕ → ℕ
-startOf payload index = walk (headed 21) payload index 3
-
 -- "kind `02`; count, then per device ..; then exactly one byte more. The answer is the count"
 abbrev pub pairedOf : List ℕ → Outcome ℕ
-pairedOf payload = readingOf (λ kind. eqb kind 0x02) (counted 2 (headed 21) 1) (λ p. accepted (countOf p)) payload
+pairedOf = countReading (λ kind. eqb kind 0x02) 2 (headed 21) 1
+
+-- where the device of an index begins
+abbrev pub startOf : List ℕ → ℕ → ℕ
+startOf payload index = itemAt (counted 2 (headed 21) 1 payload) payload index
 
 abbrev pub pairedTold : PairedDevices → Outcome ℕ
 pairedTold (Count n) = accepted n

@@ -24,10 +24,10 @@ pub fn decode_general_setting_param(payload: &[u8]) -> SettingAnswer
 {
     let len = payload.len();
     if len < 2 {
-        return SettingAnswer::Refused(Refusal::OtherMessage);
+        return SettingAnswer::Refused(Refusal::WrongKind);
     }
     if len != 4 {
-        return SettingAnswer::Refused(Refusal::OtherMessage);
+        return SettingAnswer::Refused(Refusal::WrongLength);
     }
     if payload[2] != GS_BOOLEAN_TYPE {
         return SettingAnswer::Refused(Refusal::OtherMessage);

@@ -1,23 +1,19 @@
--- Laws of a reading: one for each cause of a refusal, and what an accepted one has.
+-- Laws of a reading: what decides, what an accepted one has, and that no other length is right.
 use Prim.Native.Nat.{ℕ, _+_, _*_, _≤_, _<_}
-use mathlib.Core.Path.{_≡_, refl, sym, _∙_}
+use mathlib.Core.Path.{_≡_, refl, sym, ap, _∙_}
 use mathlib.Core.Bool.{Bool, true, false}
-use mathlib.Core.List.{List, []}
+use mathlib.Core.List.{List, [], _++_}
 use native.Mathlib.Omega.{arith}
 use lib.Dec.{eqb, ltb}
-use lib.ListN.{length, getD}
-use borrow.Author.Tests.{eqb-true, eq-eqb, ne-eqb, ltb-false, lt-ltb, le-ltb}
-use Rattle.base.specs.Outcome.{Outcome, accepted, refused, pick}
+use lib.ListN.{length, getD, length-append, List·getD-append}
+use borrow.Author.Tests.{eqb-true, eqb-false, eq-eqb, ne-eqb, ltb-true, ltb-false, lt-ltb, le-ltb}
+use Rattle.base.specs.Outcome.{Outcome, accepted, refused}
 use Rattle.reading.specs.Message.{kindOf}
-use Rattle.reading.specs.Items.{Items, fixed, counted, lengthBy}
-use Rattle.reading.specs.Reading.{readingOf, Layout, layoutReading}
-use Rattle.reading.proofs.LawsItems.{walk-fixed}
+use Rattle.reading.specs.Items.{Size, Items, fixed, counted, itemAt, lengthBy}
+use Rattle.reading.specs.Reading.{readingOf, countReading, Layout, byKind, layoutReading}
+use Rattle.reading.proofs.LawsItems.{walk-grows, walk-mono, walk-fixed, apart, Own, walk-longer}
 
 module _ {A : Type 0} (serves : ℕ → Bool) (items : List ℕ → Items) (contents : List ℕ → Outcome A) (p : List ℕ) where
-  pub read-short : length p < 2 → readingOf serves items contents p ≡ refused 19 []
-  unfolding readingOf
-  read-short h = rw (lt-ltb (length p) 2 h)
-
   -- what stands before the contents
   pub record Served : Type 0 where
     pub long : 2 ≤ length p
@@ -27,11 +23,15 @@ module _ {A : Type 0} (serves : ℕ → Bool) (items : List ℕ → Items) (cont
     pub served : Served
     pub ends : lengthBy (items p) p ≡ length p
 
-  pub read-unserved : 2 ≤ length p → serves (kindOf p) ≡ false → readingOf serves items contents p ≡ refused 19 []
+  pub read-short : length p < 2 → readingOf serves items contents p ≡ refused 25 []
+  unfolding readingOf
+  read-short h = rw (lt-ltb (length p) 2 h)
+
+  pub read-unserved : 2 ≤ length p → serves (kindOf p) ≡ false → readingOf serves items contents p ≡ refused 25 []
   unfolding readingOf
   read-unserved h k = rw (le-ltb (length p) 2 h, k)
 
-  pub read-unfit : Served → (lengthBy (items p) p ≡ length p → ⊥) → readingOf serves items contents p ≡ refused 19 []
+  pub read-unfit : Served → (lengthBy (items p) p ≡ length p → ⊥) → readingOf serves items contents p ≡ refused 26 []
   unfolding readingOf
   read-unfit s n = rw (le-ltb (length p) 2 (s .long), s .kind, ne-eqb (lengthBy (items p) p) (length p) n)
 
@@ -39,42 +39,130 @@ module _ {A : Type 0} (serves : ℕ → Bool) (items : List ℕ → Items) (cont
   unfolding readingOf
   read-fits f = rw (le-ltb (length p) 2 (f .served .long), f .served .kind, eq-eqb (lengthBy (items p) p) (length p) (f .ends))
 
-  pub was-read : (a : A) → readingOf serves items contents p ≡ accepted a → Fits × (contents p ≡ accepted a)
-  unfolding readingOf
-  was-read a = go (ltb (length p) 2) refl (serves (kindOf p)) refl (eqb (lengthBy (items p) p) (length p)) refl
+  -- a served kind, where the items come to so many bytes
+  module _ {len : ℕ} (whole : lengthBy (items p) p ≡ len) (long : 2 ≤ length p) (kind : serves (kindOf p) ≡ true) where
+    pub wrong-length : (length p ≡ len → ⊥) → readingOf serves items contents p ≡ refused 26 []
+    wrong-length n = read-unfit (record { long = long; kind = kind }) (λ e. n (sym e ∙ whole))
+
+    pub right-length : length p ≡ len → readingOf serves items contents p ≡ contents p
+    right-length e = read-fits (record { served = record { long = long; kind = kind }; ends = whole ∙ sym e })
+
+  -- what decides, for every payload: the kind, then the length, then the contents
+  pub data Decided : Type 0 where
+    by-kind : (Served → ⊥) → readingOf serves items contents p ≡ refused 25 [] → Decided
+    by-length : Served → (lengthBy (items p) p ≡ length p → ⊥) → readingOf serves items contents p ≡ refused 26 [] → Decided
+    by-contents : Fits → readingOf serves items contents p ≡ contents p → Decided
+
+  pub decided : Decided
+  decided = go (ltb (length p) 2) refl (serves (kindOf p)) refl (eqb (lengthBy (items p) p) (length p)) refl
     where
-      go : (t : Bool) → ltb (length p) 2 ≡ t → (u : Bool) → serves (kindOf p) ≡ u → (v : Bool) → eqb (lengthBy (items p) p) (length p) ≡ v
-          → pick t (refused 19 []) (pick u (pick v (contents p) (refused 19 [])) (refused 19 [])) ≡ accepted a → Fits × (contents p ≡ accepted a)
-      go true et u eu v ev h = let z : _≡_ {A = ℕ} 0 1 = cc in absurd (omega arith)
-      go false et false eu v ev h = let z : _≡_ {A = ℕ} 0 1 = cc in absurd (omega arith)
-      go false et true eu false ev h = let z : _≡_ {A = ℕ} 0 1 = cc in absurd (omega arith)
-      go false et true eu true ev h = (record { served = record { long = ltb-false (length p) 2 et; kind = eu }; ends = eqb-true _ _ ev }, h)
+      go : (t : Bool) → ltb (length p) 2 ≡ t → (u : Bool) → serves (kindOf p) ≡ u → (v : Bool) → eqb (lengthBy (items p) p) (length p) ≡ v → Decided
+      go true et u eu v ev = let h = ltb-true (length p) 2 et in by-kind (λ s. absurd (omega (arith, s .long))) (read-short h)
+      go false et false eu v ev = by-kind (λ s. let e = s .kind in let z : _≡_ {A = ℕ} 0 1 = cc in absurd (omega arith)) (read-unserved (ltb-false (length p) 2 et) eu)
+      go false et true eu false ev = let s : Served = record { long = ltb-false (length p) 2 et; kind = eu } in let n = eqb-false _ _ ev in by-length s n (read-unfit s n)
+      go false et true eu true ev = let f : Fits = record { served = record { long = ltb-false (length p) 2 et; kind = eu }; ends = eqb-true _ _ ev } in by-contents f (read-fits f)
+
+  pub was-read : (a : A) → readingOf serves items contents p ≡ accepted a → Fits × (contents p ≡ accepted a)
+  was-read a h = go decided
+    where
+      go : Decided → Fits × (contents p ≡ accepted a)
+      go (by-kind n e) = let z : _≡_ {A = ℕ} 0 1 = cc in absurd (omega arith)
+      go (by-length s n e) = let z : _≡_ {A = ℕ} 0 1 = cc in absurd (omega arith)
+      go (by-contents f e) = (f, sym e ∙ h)
+
+-- items that bytes behind the payload leave as they are
+abbrev pub Steady : (List ℕ → Items) → Type 0
+Steady items = (p r : List ℕ) → 2 ≤ length p → lengthBy (items p) p ≤ length p → lengthBy (items (p ++ r)) (p ++ r) ≡ lengthBy (items p) p
+
+-- so many, each by its own bytes
+pub steady-so-many : (first count : ℕ) {size : Size} → Own size → (behind : ℕ) → Steady (λ p. record { first = first; count = count; size = size; behind = behind })
+steady-so-many first count own behind p r long h = ap (λ (m : ℕ). m + behind) (walk-longer own p r count first (omega arith))
+
+pub steady-counted : (place : ℕ) {size : Size} → Own size → (behind : ℕ) → Steady (counted place size behind)
+steady-counted place {size} own behind p r long h =
+    let n = getD p place 0 in
+    let e : getD (p ++ r) place 0 ≡ n = List·getD-append p r 0 place (omega (arith, walk-grows size p n (place + 1))) in
+    ap (λ (m : ℕ). lengthBy (record { first = place + 1; count = m; size = size; behind = behind }) (p ++ r)) e ∙ steady-so-many (place + 1) n own behind p r long h
+
+pub steady-kind : (len : ℕ → ℕ) → Steady (byKind len)
+steady-kind len p r long h = omega (arith, walk-fixed (len (kindOf (p ++ r))) (p ++ r) 1 0, walk-fixed (len (kindOf p)) p 1 0, ap len (List·getD-append p r 0 1 (omega arith)))
+
+-- kind and length are right
+pub record Whole {A : Type 0} (o : Outcome A) : Type 0 where
+  pub kind : o ≡ refused 25 [] → ⊥
+  pub length : o ≡ refused 26 [] → ⊥
+
+-- "bytes run out, are too many": a payload that is whole, with bytes behind it, and cut anywhere behind its kind
+pub record OneLength {A : Type 0} (reading : List ℕ → Outcome A) : Type 0 where
+  pub too-many : (p r : List ℕ) → Whole (reading p) → 0 < length r → reading (p ++ r) ≡ refused 26 []
+  pub run-out : (p r : List ℕ) → Whole (reading (p ++ r)) → 2 ≤ length p → 0 < length r → reading p ≡ refused 26 []
+
+module _ {A : Type 0} (serves : ℕ → Bool) (items : List ℕ → Items) (contents : List ℕ → Outcome A) (steady : Steady items) where
+  fits : (p : List ℕ) → Whole (readingOf serves items contents p) → Fits serves items contents p
+  fits p w = go (decided serves items contents p)
+    where
+      go : Decided serves items contents p → Fits serves items contents p
+      go (by-kind n e) = absurd (w .kind e)
+      go (by-length s n e) = absurd (w .length e)
+      go (by-contents f e) = f
+
+  kind-kept : (p r : List ℕ) → 2 ≤ length p → serves (kindOf (p ++ r)) ≡ serves (kindOf p)
+  kind-kept p r h = ap serves (List·getD-append p r 0 1 (omega arith))
+
+  pub one-length : OneLength (readingOf serves items contents)
+  one-length = record {
+    too-many = λ p r w n.
+        let f = fits p w in
+        let s = f .served in
+        read-unfit serves items contents (p ++ r) (record { long = omega (arith, s .long, length-append p r); kind = kind-kept p r (s .long) ∙ s .kind })
+        (λ e. omega (arith, n, length-append p r, steady p r (s .long) (omega (arith, f .ends)), f .ends));
+    run-out = λ p r w long n.
+        let f = fits (p ++ r) w in
+        read-unfit serves items contents p (record { long = long; kind = sym (kind-kept p r long) ∙ f .served .kind })
+        (λ e. omega (arith, n, length-append p r, steady p r long (omega (arith, e)), f .ends));
+  }
+
+pub layout-length : {A : Type 0} (layouts : ℕ → Layout A) → OneLength (layoutReading layouts)
+layout-length layouts = one-length _ _ _ (steady-kind (λ k. layouts k .len))
 
 -- a count at a place, and as many items of one size, to the end
 module _ {A : Type 0} (serves : ℕ → Bool) (place size : ℕ) (contents : List ℕ → Outcome A) (p : List ℕ) where
-  module _ (long : 2 ≤ length p) (kind : serves (kindOf p) ≡ true) where
-    pub read-uncounted : (length p ≡ place + 1 + size * getD p place 0 → ⊥) → readingOf serves (counted place (fixed size) 0) contents p ≡ refused 19 []
-    read-uncounted n = read-unfit serves _ contents p (record { long = long; kind = kind }) (λ e. n (omega (arith, walk-fixed size p (getD p place 0) (place + 1))))
+  whole : lengthBy (counted place (fixed size) 0 p) p ≡ place + 1 + size * getD p place 0
+  whole = omega (arith, walk-fixed size p (getD p place 0) (place + 1))
 
-    pub read-counted : length p ≡ place + 1 + size * getD p place 0 → readingOf serves (counted place (fixed size) 0) contents p ≡ contents p
-    read-counted e = read-fits serves _ contents p (record { served = record { long = long; kind = kind }; ends = omega (arith, walk-fixed size p (getD p place 0) (place + 1)) })
+  pub read-uncounted : 2 ≤ length p → serves (kindOf p) ≡ true → (length p ≡ place + 1 + size * getD p place 0 → ⊥) → readingOf serves (counted place (fixed size) 0) contents p ≡ refused 26 []
+  read-uncounted = wrong-length serves _ contents p whole
+
+  pub read-counted : 2 ≤ length p → serves (kindOf p) ≡ true → length p ≡ place + 1 + size * getD p place 0 → readingOf serves (counted place (fixed size) 0) contents p ≡ contents p
+  read-counted = right-length serves _ contents p whole
 
   pub was-counted : (a : A) → readingOf serves (counted place (fixed size) 0) contents p ≡ accepted a → (length p ≡ place + 1 + size * getD p place 0) × (contents p ≡ accepted a)
-  was-counted a h = let r = was-read serves _ contents p a h in (omega (arith, walk-fixed size p (getD p place 0) (place + 1)), r .1)
+  was-counted a h = let r = was-read serves _ contents p a h in (sym (r .0 .ends) ∙ whole, r .1)
+
+-- an accepted count: the payload has so many items, each inside, and the bytes behind them
+module _ (serves : ℕ → Bool) (place : ℕ) (size : Size) (behind : ℕ) (p : List ℕ) (n : ℕ) (t : countReading serves place size behind p ≡ accepted n) where
+  abbrev start : ℕ → ℕ
+  start k = itemAt (counted place size behind p) p k
+
+  pub was-count : (getD p place 0 ≡ n) × (start n + behind ≡ length p)
+  was-count =
+      let r = was-read serves _ _ p n t in
+      let e : getD p place 0 ≡ n = cc in
+      (e, rw e at (r .0 .ends))
+
+  pub item-begins : (k : ℕ) → k ≤ n → start k + behind ≤ length p
+  item-begins k h = omega (arith, walk-mono size p k n (place + 1) h, was-count .1)
+
+  pub item-ends : (k : ℕ) → k < n → start k + size p (start k) + behind ≤ length p
+  item-ends k h = omega (arith, apart size p k n (place + 1) h, was-count .1)
 
 -- a payload whose kind gives its length
 module _ {A : Type 0} (layouts : ℕ → Layout A) (p : List ℕ) {k : ℕ} (kind : kindOf p ≡ k) (serves : layouts k .serves ≡ true) (long : 2 ≤ length p) where
-  abbrev items : List ℕ → Items
-  items q = record { first = 0; count = 1; size = fixed (layouts (kindOf q) .len); behind = 0 }
-
-  served : Served (λ k. layouts k .serves) items (λ p. layouts (kindOf p) .contents p) p
-  served = record { long = long; kind = rw kind serves }
-
-  len : lengthBy (items p) p ≡ layouts k .len
+  len : lengthBy (byKind (λ k. layouts k .len) p) p ≡ layouts k .len
   len = rw kind (omega (arith, walk-fixed (layouts k .len) p 1 0))
 
-  pub layout-unfit : (length p ≡ layouts k .len → ⊥) → layoutReading layouts p ≡ refused 19 []
-  layout-unfit n = read-unfit _ _ _ p served (λ e. n (sym e ∙ len))
+  pub layout-unfit : (length p ≡ layouts k .len → ⊥) → layoutReading layouts p ≡ refused 26 []
+  layout-unfit = wrong-length _ _ _ p len long (rw kind serves)
 
   pub layout-fits : length p ≡ layouts k .len → layoutReading layouts p ≡ layouts k .contents p
-  layout-fits e = rw (read-fits _ _ _ p (record { served = served; ends = len ∙ sym e }), kind)
+  layout-fits e = right-length _ _ _ p len long (rw kind serves) e ∙ ap (λ (k : ℕ). layouts k .contents p) kind

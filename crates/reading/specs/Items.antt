@@ -1,4 +1,4 @@
--- 01, "Messages and decoders": the walk over the items of a payload, and how its length follows from them.
+-- 01, "Messages and decoders", and 02, C-16: the walk over the items of a payload, and how its length follows from them.
 use Prim.Native.Nat.{ℕ, zero, suc, _+_}
 use mathlib.Core.List.{List}
 use lib.ListN.{getD}
@@ -31,6 +31,10 @@ pub record Items : Type 0 where
 abbrev pub counted : (place : ℕ) → Size → (behind : ℕ) → List ℕ → Items
 counted place size behind payload = record { first = place + 1; count = getD payload place 0; size = size; behind = behind }
 
+-- where the item of an index begins
+abbrev pub itemAt : Items → List ℕ → ℕ → ℕ
+itemAt i payload index = walk (i .size) payload index (i .first)
+
 -- the length of a payload that has these items
 abbrev pub lengthBy : Items → List ℕ → ℕ
-lengthBy i payload = walk (i .size) payload (i .count) (i .first) + i .behind
+lengthBy i payload = itemAt i payload (i .count) + i .behind

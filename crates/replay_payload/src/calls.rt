@@ -265,7 +265,7 @@ fn devices(payload: &[u8], count: usize, text: &mut [u8], k: usize) -> usize {
     lookup(payload, count, text, next)
 }
 
-fn lookup(payload: &[u8], index: usize, text: &mut [u8], k: usize) -> usize {
+pub fn lookup(payload: &[u8], index: usize, text: &mut [u8], k: usize) -> usize {
     match paired::paired_device(payload, index) {
         PairedLookup::Device(d) => device(text, k, d),
         PairedLookup::Refused(r) => refusal(text, k, r),

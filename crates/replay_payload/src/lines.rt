@@ -1,5 +1,7 @@
 // The cases, one after the other.
+use crate::calls::lookup;
 use crate::calls::reading;
+use crate::outcomes::outcomes;
 use crate::ranges::admits_all;
 use crate::ranges::within_all;
 use crate::strings::texts;
@@ -58,6 +60,21 @@ fn answer(
         b'v' | b'q' | b'l' | b's' | b'd' => {
             number(text, k, summed(input, at, kept, records, scratch))
         }
+        b'o' => outcomes(
+            letter(input, field(input, at, 2)),
+            kept,
+            number_field(input, at, 1),
+            records,
+            scratch,
+            text,
+            k,
+        ),
+        b'u' => lookup(
+            first(kept, number_field(input, at, 1)),
+            number_field(input, at, 2),
+            text,
+            k,
+        ),
         b'a' => admits_all(range_of(input, at), text, k),
         b'w' => within_all(range_of(input, at), text, k),
         b't' => texts(

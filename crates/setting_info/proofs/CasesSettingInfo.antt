@@ -24,6 +24,6 @@ unfolding readingOf walk infoContents infoOf afterLead afterFollower placeAfter 
 summary-repaired = refl
 
 -- two bytes stand behind the summary; the Rust counts three for its one, and accepts
-pub bytes-behind : infoOf (0xD1 ∷ 0xD1 ∷ 0x00 ∷ 0x00 ∷ 0x00 ∷ 0x01 ∷ 0xFF ∷ 0x00 ∷ 0x00 ∷ []) ≡ refused 19 []
+pub bytes-behind : infoOf (0xD1 ∷ 0xD1 ∷ 0x00 ∷ 0x00 ∷ 0x00 ∷ 0x01 ∷ 0xFF ∷ 0x00 ∷ 0x00 ∷ []) ≡ refused 26 []
 unfolding readingOf walk infoContents infoOf
 bytes-behind = refl

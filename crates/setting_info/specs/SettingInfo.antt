@@ -7,7 +7,7 @@ use lib.ListN.{getD, take, drop}
 use Rattle.base.specs.Outcome.{Outcome, accepted, refused, pick}
 use Rattle.base.specs.Refusal.{refusalTold}
 use Rattle.reading.specs.Message.{kindOf, bodyAt}
-use Rattle.reading.specs.Items.{Size, headed, walk, Items}
+use Rattle.reading.specs.Items.{Size, headed, Items, itemAt}
 use Rattle.reading.specs.Reading.{readingOf}
 use Rattle.text.specs.Text.{charactersOf}
 use Rattle.text.specs.declared.text.Characters.{Characters}
@@ -34,7 +34,7 @@ abbrev pub nameAt : ℕ
 nameAt = 4
 
 abbrev pub summaryAt : List ℕ → ℕ
-summaryAt payload = walk textSize payload 1 nameAt
+summaryAt payload = itemAt (infoItems payload) payload 1
 
 abbrev pub bytesAt : List ℕ → ℕ → List ℕ
 bytesAt payload at = take (getD payload at 0) (drop (at + 1) payload)

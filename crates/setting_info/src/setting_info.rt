@@ -32,20 +32,20 @@ pub fn decode_general_setting_info(payload: &[u8]) -> SettingInfoAnswer
 {
     let len = payload.len();
     if len < 2 {
-        return SettingInfoAnswer::Refused(Refusal::OtherMessage);
+        return SettingInfoAnswer::Refused(Refusal::WrongKind);
     }
     if len < 6 {
-        return SettingInfoAnswer::Refused(Refusal::OtherMessage);
+        return SettingInfoAnswer::Refused(Refusal::WrongLength);
     }
     let name_len = payload[4] as usize;
     let name_end = 5 + name_len;
     if len <= name_end {
-        return SettingInfoAnswer::Refused(Refusal::OtherMessage);
+        return SettingInfoAnswer::Refused(Refusal::WrongLength);
     }
     let summary_len = payload[name_end] as usize;
     let summary = name_end + 1;
     if len - summary != summary_len {
-        return SettingInfoAnswer::Refused(Refusal::OtherMessage);
+        return SettingInfoAnswer::Refused(Refusal::WrongLength);
     }
     if payload[2] != GS_BOOLEAN_TYPE {
         return SettingInfoAnswer::Refused(Refusal::OtherMessage);

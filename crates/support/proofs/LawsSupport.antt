@@ -1,4 +1,4 @@
--- An accepted count, and the records as they are filled.
+-- The length of an accepted list, and the records as they are filled.
 use Prim.Native.Nat.{ℕ, zero, suc, _+_, _*_, _≤_, _<_}
 use mathlib.Core.Path.{_≡_, refl, ap, _∙_}
 use mathlib.Core.List.{List, [], _∷_}
@@ -7,17 +7,20 @@ use native.Mathlib.Numerals.{add-one}
 use lib.ListN.{length, getD, drop, set, length-append, length-drop}
 use lib.Seq.{drop-cons, set-at, append-snoc}
 use Rattle.base.specs.Outcome.{accepted}
-use Rattle.reading.proofs.LawsReading.{was-counted}
+use Rattle.reading.specs.Items.{fixed}
+use Rattle.reading.proofs.LawsItems.{walk-fixed, own-fixed}
+use Rattle.reading.proofs.LawsReading.{OneLength, one-length, steady-counted, was-count}
 use Rattle.support.specs.declared.support.SupportFunction.{SupportFunction}
 use Rattle.support.specs.Support.{checkOf, functionAt, functions, recordsWith}
 
--- an accepted count is the list's
-pub was-list : (p : List ℕ) (n : ℕ) → checkOf p ≡ accepted n → (n ≡ getD p 2 0) × (length p ≡ 3 + 2 * n)
+pub check-length : OneLength checkOf
 unfolding checkOf
-was-list p n h =
-    let r = was-counted _ 2 2 _ p n h in
-    let e : n ≡ getD p 2 0 = cc in
-    (e, omega arith)
+check-length = one-length _ _ _ (steady-counted 2 (own-fixed 2) 0)
+
+-- an accepted list has so many functions
+pub was-list : (p : List ℕ) (n : ℕ) → checkOf p ≡ accepted n → length p ≡ 3 + 2 * n
+unfolding checkOf
+was-list p n t = omega (arith, was-count _ 2 (fixed 2) 0 p n t .1, walk-fixed 2 p n 3)
 
 module _ (p : List ℕ) where
   length-functions : (n : ℕ) → length (functions p n) ≡ n

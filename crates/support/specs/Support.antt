@@ -6,8 +6,8 @@ use lib.Dec.{eqb, ltb}
 use lib.ListN.{length, getD, drop}
 use Rattle.base.specs.Outcome.{Outcome, accepted, refused, pick}
 use Rattle.base.specs.Refusal.{refusalTold}
-use Rattle.reading.specs.Items.{fixed, counted}
-use Rattle.reading.specs.Reading.{readingOf}
+use Rattle.reading.specs.Items.{fixed, counted, itemAt}
+use Rattle.reading.specs.Reading.{countReading}
 use Rattle.support.specs.declared.support.Table.{Table}
 use Rattle.support.specs.declared.support.SupportFunction.{SupportFunction}
 use Rattle.support.specs.declared.support.Placing.{Placing}
@@ -31,11 +31,14 @@ supportTold (Answer.Refused r) = refusalTold r
 
 -- "kind `00`; count, then code and priority each, the end": the count, or the refusal
 unfoldable pub checkOf : List ℕ → Outcome ℕ
-checkOf = readingOf (λ kind. eqb kind 0x00) (counted 2 (fixed 2) 0) (λ p. accepted (getD p 2 0))
+checkOf = countReading (λ kind. eqb kind 0x00) 2 (fixed 2) 0
 
--- the function i of the list: its code, and its priority
+-- where the function of an index stands: its code, and its priority
+abbrev pub placeOf : List ℕ → ℕ → ℕ
+placeOf p i = itemAt (counted 2 (fixed 2) 0 p) p i
+
 abbrev pub functionAt : List ℕ → ℕ → SupportFunction
-functionAt p i = record { code = getD p (3 + 2 * i) 0; priority = getD p (3 + 2 * i + 1) 0 }
+functionAt p i = record { code = getD p (placeOf p i) 0; priority = getD p (placeOf p i + 1) 0 }
 
 -- the first n functions of the list, in order
 unfoldable pub functions : List ℕ → ℕ → List SupportFunction
@@ -58,7 +61,7 @@ supportBy (accepted count) table p records =
     (record { answer = refused 20 []; records = records })
     (record { answer = accepted (record { table = table; count = count }); records = recordsWith p count records })
 
--- 19, then 20 where the list is longer than the lent records; the list goes into the records
+-- 25, 26, then 20 where the list is longer than the lent records; the list goes into the records
 unfoldable pub supportCall : Table → List ℕ → List SupportFunction → SupportEffect
 supportCall table p records = supportBy (checkOf p) table p records
 

@@ -31,17 +31,17 @@ pub fn check_support_functions(payload: &[u8]) -> SupportCheck
     ensures { λ r. ⌜ checkTold r ≡ checkOf (now (payload .entry)) ⌝ }
 {
     if payload.len() < 2 {
-        return SupportCheck::Refused(Refusal::OtherMessage);
+        return SupportCheck::Refused(Refusal::WrongKind);
     }
     if payload[1] != 0x00 {
-        return SupportCheck::Refused(Refusal::OtherMessage);
+        return SupportCheck::Refused(Refusal::WrongKind);
     }
     if payload.len() < 3 {
-        return SupportCheck::Refused(Refusal::OtherMessage);
+        return SupportCheck::Refused(Refusal::WrongLength);
     }
     let count = payload[2] as usize;
     if payload.len() - 3 != 2 * count {
-        return SupportCheck::Refused(Refusal::OtherMessage);
+        return SupportCheck::Refused(Refusal::WrongLength);
     }
     SupportCheck::Count(count)
 }

@@ -2,13 +2,11 @@
 use crate::case::{Case, Run, Tally, fewer, hex};
 use crate::inputs::{any, content, room, setting_texts, shortest, strings, values};
 use crate::lent::{Lent, MOST_VALUES, Told, Values, left_difference, told_difference};
+use common::causes::{Decoder, read};
 use common::choice::Choice;
 use common::frames::{accepted, damage, name, paired, support};
 use common::settings::texts;
-use original::mdr::payload::{
-    AmbientRange, Cell, Charging, Message, NoiseMode, PairedDevice, Reading, Table, decode_battery, decode_equalizer,
-    decode_general_setting_param, decode_noise, decode_noise_capability, decode_paired_devices, decode_support_functions,
-};
+use original::mdr::payload::{AmbientRange, Cell, Charging, Message, NoiseMode, PairedDevice, Reading, Table};
 
 #[derive(Clone, Copy, Debug, PartialEq)]
 pub enum Call {
@@ -113,10 +111,10 @@ fn numbers(reading: Reading) -> Vec<u64> {
     }
 }
 
-fn devices(payload: &[u8]) -> Option<Vec<PairedDevice>> {
-    match decode_paired_devices(&Message::split(payload)?)? {
-        Reading::PairedDevices(devices) => Some(devices),
-        _ => None,
+fn devices(payload: &[u8]) -> Result<Vec<PairedDevice>, u8> {
+    match read(Decoder::Paired, payload)? {
+        Reading::PairedDevices(devices) => Ok(devices),
+        _ => unreachable!("its decoder reads no other"),
     }
 }
 
@@ -127,7 +125,10 @@ fn characters(bytes: &[u8]) -> Option<u64> {
 
 /// The device at an index: offsets found here, and held to the Rust's strings.
 fn device(payload: &[u8], index: usize) -> Told {
-    let Some(devices) = devices(payload) else { return Told::refused(19) };
+    let devices = match devices(payload) {
+        Ok(devices) => devices,
+        Err(number) => return Told::refused(number),
+    };
     let Some(device) = devices.get(index) else { return Told::refused(21) };
     let mut address = 3;
     for _ in 0..index {
@@ -173,16 +174,14 @@ impl Payload {
         told_difference(&expected, status, &values)
     }
 
-    /// A decoder that answers nothing refuses with 19, and so does one that is given no message.
     fn reading(
         &self,
         tally: &mut Tally,
         entry: &'static str,
-        rust: impl Fn(&Message) -> Option<Reading>,
+        decoder: Decoder,
         ours: impl FnOnce(&[u8], &mut [u64]) -> u8,
     ) -> Option<String> {
-        let reading = Message::split(&self.bytes).and_then(|m| rust(&m));
-        let expected = reading.map_or(Told::refused(19), |r| Told::accepted(&numbers(r)));
+        let expected = read(decoder, &self.bytes).map_or_else(Told::refused, |r| Told::accepted(&numbers(r)));
         self.compare(tally, entry, expected, ours)
     }
 
@@ -190,19 +189,18 @@ impl Payload {
     fn support_functions(&self, tally: &mut Tally) -> Option<String> {
         let unset = ours::SupportFunction { code: 0xA5, priority: 0x5A };
         let table = if self.table == 1 { Table::One } else { Table::Two };
-        let reading = Message::split(&self.bytes).and_then(|m| decode_support_functions(table, &m));
-        let functions = match reading {
-            Some(Reading::SupportFunctions { functions, .. }) => Some(functions),
-            _ => None,
-        };
+        let functions = read(Decoder::Support(table), &self.bytes).map(|reading| match reading {
+            Reading::SupportFunctions { functions, .. } => functions,
+            _ => unreachable!("its decoder reads no other"),
+        });
         // Two records before and behind are lent to nobody.
         let room = functions.as_ref().map_or(4, Vec::len).saturating_add_signed(self.room);
         let mut records = vec![unset; room + 4];
         let mut expected = records.clone();
         let told = match &functions {
-            None => Told::refused(19),
-            Some(functions) if room < functions.len() => Told::refused(20),
-            Some(functions) => {
+            Err(number) => Told::refused(*number),
+            Ok(functions) if room < functions.len() => Told::refused(20),
+            Ok(functions) => {
                 for (record, f) in expected[2..].iter_mut().zip(functions) {
                     *record = ours::SupportFunction { code: f.code, priority: f.priority };
                 }
@@ -222,8 +220,8 @@ impl Payload {
     fn masked(&self, tally: &mut Tally) -> Option<String> {
         let mut expected = self.bytes.clone();
         let devices = devices(&self.bytes);
-        tally.add("mask_paired", if devices.is_some() { 0 } else { 19 });
-        if let Some(devices) = devices {
+        tally.add("mask_paired", devices.as_ref().err().copied().unwrap_or(0));
+        if let Ok(devices) = devices {
             common::log::mask(&mut expected, devices.len());
         }
         let masked = expected.len();
@@ -247,20 +245,18 @@ impl Case for Payload {
                 });
                 self.compare(tally, "message", expected, ours::message)
             }
-            Call::Battery => self.reading(tally, "battery", decode_battery, ours::battery),
-            Call::Noise => self.reading(tally, "noise", decode_noise, ours::noise),
-            Call::Capability => self.reading(tally, "noise_capability", decode_noise_capability, ours::noise_capability),
-            Call::Equalizer => self.reading(tally, "equalizer", decode_equalizer, ours::equalizer),
-            Call::PairedDevices => self.reading(tally, "paired_devices", decode_paired_devices, ours::paired_devices),
+            Call::Battery => self.reading(tally, "battery", Decoder::Battery, ours::battery),
+            Call::Noise => self.reading(tally, "noise", Decoder::Noise, ours::noise),
+            Call::Capability => self.reading(tally, "noise_capability", Decoder::Capability, ours::noise_capability),
+            Call::Equalizer => self.reading(tally, "equalizer", Decoder::Equalizer, ours::equalizer),
+            Call::PairedDevices => self.reading(tally, "paired_devices", Decoder::Paired, ours::paired_devices),
             Call::PairedDevice => {
                 let expected = device(&self.bytes, self.index);
                 self.compare(tally, "paired_device", expected, |bytes, values| ours::paired_device(bytes, self.index, values))
             }
             Call::MaskPaired => self.masked(tally),
-            Call::SupportCheck => {
-                self.reading(tally, "support_check", |m| decode_support_functions(Table::One, m), ours::support_check)
-            }
-            Call::GeneralSetting => self.reading(tally, "general_setting", decode_general_setting_param, ours::general_setting),
+            Call::SupportCheck => self.reading(tally, "support_check", Decoder::Support(Table::One), ours::support_check),
+            Call::GeneralSetting => self.reading(tally, "general_setting", Decoder::Setting, ours::general_setting),
             Call::GeneralSettingInfo => {
                 self.compare(tally, "general_setting_info", setting_info(&self.bytes), ours::general_setting_info)
             }

@@ -1,5 +1,6 @@
 //! Prints the case lists of the replay programs, and the answers that the Rust original gives.
 mod again;
+mod causes;
 mod frames;
 mod inlog;
 mod lines;

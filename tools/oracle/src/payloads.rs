@@ -1,9 +1,8 @@
 //! Cases for `payload`: the Rust's `Message::split`, eight decoders, `AmbientRange` and `EqShape`, and its `from_utf8` and `chars`.
 use crate::text::{Choice, List, field, lent, rule, shown, sum};
+use common::causes::{Decoder, read};
 use original::mdr::payload::{
-    AmbientRange, Cell, Charging, EqShape, GeneralSetting, Message, NoiseMode, Reading, Table, decode_battery, decode_equalizer,
-    decode_general_setting_info, decode_general_setting_param, decode_noise, decode_noise_capability, decode_paired_devices,
-    decode_support_functions,
+    AmbientRange, Cell, Charging, EqShape, GeneralSetting, Message, NoiseMode, Reading, Table, decode_general_setting_info,
 };
 
 pub fn list() -> List {
@@ -20,6 +19,7 @@ pub fn list() -> List {
     setting_texts(&mut s);
     texts(&mut s);
     ranges(&mut s);
+    crate::causes::cases(&mut s);
     s.list
 }
 
@@ -62,26 +62,26 @@ fn range(r: AmbientRange) -> String {
     flag(r.voice) + &word(r.min) + &word(r.max) + &word(r.step)
 }
 
-/// What a decoder reads. OURS, by document 01: `None`, and an empty payload, are refusal 19.
-fn decoded(payload: &[u8], decoder: impl Fn(&Message) -> Option<Reading>) -> Option<Reading> {
-    decoder(&Message::split(payload)?)
+/// OURS, by 02: where a decoder answers `None`, and of an empty payload, the refusal is 25, 26 or 19.
+fn refusal(read: Result<Reading, u8>) -> String {
+    word("refused") + &word(read.expect_err("what another decoder reads"))
 }
 
 fn reading(letter: char, table: Table, payload: &[u8], m: usize) -> String {
     match letter {
         'm' => message(payload),
-        'b' => match decoded(payload, decode_battery) {
-            Some(Reading::Battery(r)) => cell(r.main) + &cell(r.left) + &cell(r.right) + &cell(r.case),
-            _ => "refused 19 ".into(),
+        'b' => match read(Decoder::Battery, payload) {
+            Ok(Reading::Battery(r)) => cell(r.main) + &cell(r.left) + &cell(r.right) + &cell(r.case),
+            other => refusal(other),
         },
         'n' => noise(payload),
         'c' => capability(payload),
         'e' => equalizer(payload),
         'p' => devices(payload),
         'f' => support(table, payload, m),
-        'g' => match decoded(payload, decode_general_setting_param) {
-            Some(Reading::GeneralSettingParam { slot, enabled }) => word(slot) + &flag(enabled),
-            _ => "refused 19 ".into(),
+        'g' => match read(Decoder::Setting, payload) {
+            Ok(Reading::GeneralSettingParam { slot, enabled }) => word(slot) + &flag(enabled),
+            other => refusal(other),
         },
         'i' => setting_info(payload),
         'y' => option(characters(payload)),
@@ -89,6 +89,7 @@ fn reading(letter: char, table: Table, payload: &[u8], m: usize) -> String {
     }
 }
 
+/// OURS, by document 01: 19 for an empty payload.
 fn message(payload: &[u8]) -> String {
     match Message::split(payload) {
         Some(m) => word(m.command.to_byte()) + &option(m.kind) + &word(m.len) + &shown(m.body),
@@ -97,7 +98,10 @@ fn message(payload: &[u8]) -> String {
 }
 
 fn noise(payload: &[u8]) -> String {
-    let Some(Reading::Noise(r)) = decoded(payload, decode_noise) else { return "refused 19 ".into() };
+    let r = match read(Decoder::Noise, payload) {
+        Ok(Reading::Noise(r)) => r,
+        other => return refusal(other),
+    };
     let mode = match r.mode {
         NoiseMode::Off => "off",
         NoiseMode::Anc => "anc",
@@ -114,9 +118,9 @@ fn noise(payload: &[u8]) -> String {
 
 /// OURS: the record holds two ranges, and those behind the count are zero.
 fn capability(payload: &[u8]) -> String {
-    let (answer, mut ranges) = match decoded(payload, decode_noise_capability) {
-        Some(Reading::NoiseCapability { kind, ranges }) => (word(kind), ranges),
-        _ => (word("refused 19"), vec![]),
+    let (answer, mut ranges) = match read(Decoder::Capability, payload) {
+        Ok(Reading::NoiseCapability { kind, ranges }) => (word(kind), ranges),
+        other => (refusal(other), vec![]),
     };
     let count = ranges.len();
     ranges.resize(2, AmbientRange { voice: false, min: 0, max: 0, step: 0 });
@@ -130,7 +134,10 @@ fn place(n: i32) -> i32 {
 
 /// OURS: a band's gain is its step less the bias of the shape, which is the Rust's.
 fn equalizer(payload: &[u8]) -> String {
-    let Some(Reading::Equalizer(r)) = decoded(payload, decode_equalizer) else { return "refused 19 . ".into() };
+    let r = match read(Decoder::Equalizer, payload) {
+        Ok(Reading::Equalizer(r)) => r,
+        other => return refusal(other) + ". ",
+    };
     let shape = EqShape::of(r.steps.len());
     let name = match shape {
         EqShape::ClearBassAndFive => "six",
@@ -145,35 +152,51 @@ fn equalizer(payload: &[u8]) -> String {
     word(r.preset) + &word(r.steps.len()) + &shown(&r.steps) + &word(name) + &word(place(shape.bias())) + &word(gains)
 }
 
-/// OURS: addresses and names are offsets in the payload, held to the Rust's strings here; an index at the count is refusal 21.
-fn devices(payload: &[u8]) -> String {
-    let Some(Reading::PairedDevices(devices)) = decoded(payload, decode_paired_devices) else {
-        return "refused 19 refused 19 ".into();
+/// OURS: addresses and names are offsets in the payload, held to the Rust's strings here.
+fn looked_up(payload: &[u8]) -> Result<Vec<String>, String> {
+    let devices = match read(Decoder::Paired, payload) {
+        Ok(Reading::PairedDevices(devices)) => devices,
+        other => return Err(refusal(other)),
     };
-    let mut out = word(devices.len());
+    let mut all = vec![];
     let mut at = 3;
     for d in &devices {
         let (name, len) = (at + 22, usize::from(payload[at + 21]));
         let bytes = &payload[name..name + len];
         assert_eq!(String::from_utf8_lossy(&payload[at..at + 17]), d.address);
         assert_eq!(String::from_utf8_lossy(bytes), d.name);
-        out += &word(at);
-        out += &word(d.status);
-        out += &d.detail.map(word).concat();
-        out += &word(name);
-        out += &word(len);
-        out += &option(characters(bytes));
+        let details = d.detail.map(word).concat();
+        all.push(word(at) + &word(d.status) + &details + &word(name) + &word(len) + &option(characters(bytes)));
         at = name + len;
     }
     assert_eq!(at + 1, payload.len());
-    out + "refused 21 "
+    Ok(all)
+}
+
+/// OURS: an index that is not below the count is refusal 21, after those of the list.
+fn lookup(payload: &[u8], index: usize) -> String {
+    match looked_up(payload) {
+        Ok(devices) => devices.get(index).cloned().unwrap_or("refused 21 ".into()),
+        Err(refusal) => refusal,
+    }
+}
+
+fn devices(payload: &[u8]) -> String {
+    match looked_up(payload) {
+        Ok(devices) => word(devices.len()) + &devices.concat() + &lookup(payload, devices.len()),
+        Err(refusal) => refusal + &lookup(payload, 0),
+    }
 }
 
 /// OURS: the pairs go to the first of `m` records lent, which are shown as bytes; 20 where they do not fit, and nothing changes.
 fn support(table: Table, payload: &[u8], m: usize) -> String {
     let mut records = lent(2 * m);
-    let Some(Reading::SupportFunctions { table, functions }) = decoded(payload, |m| decode_support_functions(table, m)) else {
-        return format!("refused 19 {}refused 19 ", shown(&records));
+    let (table, functions) = match read(Decoder::Support(table), payload) {
+        Ok(Reading::SupportFunctions { table, functions }) => (table, functions),
+        other => {
+            let refusal = refusal(other);
+            return format!("{refusal}{}{refusal}", shown(&records));
+        }
     };
     let count = functions.len();
     if m < count {
@@ -199,6 +222,13 @@ fn setting_info(payload: &[u8]) -> String {
     }
 }
 
+/// The number of the refusal, or 0.
+pub fn outcome(letter: char, payload: &[u8]) -> u8 {
+    let answer = reading(letter, Table::One, payload, 512);
+    let number = answer.strip_prefix("refused ").and_then(|rest| rest.split(' ').next());
+    number.map_or(0, |n| n.parse().expect("a number"))
+}
+
 /// OURS: refusal 22 where the Rust panics.
 fn admits(r: AmbientRange, level: i32) -> u8 {
     if r.step == 0 && (i32::from(r.min)..=i32::from(r.max)).contains(&level) {
@@ -210,29 +240,47 @@ fn admits(r: AmbientRange, level: i32) -> u8 {
 // The cases.
 
 /// The payload that is kept from line to line.
-struct Session {
+pub struct Session {
     list: List,
     kept: Vec<u8>,
 }
 
 impl Session {
-    fn keep(&mut self, bytes: &[u8]) {
+    pub fn keep(&mut self, bytes: &[u8]) {
         self.kept[..bytes.len()].copy_from_slice(bytes);
         self.list.add(format!("k {}", field(bytes)), bytes.len().to_string());
     }
 
-    fn change(&mut self, at: usize, byte: u8) {
+    pub fn change(&mut self, at: usize, byte: u8) {
         self.kept[at] = byte;
         self.list.add(format!("x {at} {byte}"), "set".into());
     }
 
-    fn read(&mut self, letter: char, n: usize) {
+    pub fn read(&mut self, letter: char, n: usize) {
         self.list.add(format!("{letter} {n}"), reading(letter, Table::Two, &self.kept[..n], 0));
     }
 
-    fn support(&mut self, n: usize, m: usize, table: Table) {
+    pub fn support(&mut self, n: usize, m: usize, table: Table) {
         let number = if table == Table::One { 1 } else { 2 };
         self.list.add(format!("f {n} {m} {number}"), reading('f', table, &self.kept[..n], m));
+    }
+
+    /// The device at an index.
+    pub fn lookup(&mut self, n: usize, index: usize) {
+        self.list.add(format!("u {n} {index}"), lookup(&self.kept[..n], index));
+    }
+
+    /// Every length below `n`: those at which the outcome becomes another, each with its outcome.
+    pub fn outcomes(&mut self, letter: char, n: usize) {
+        let mut answer = String::new();
+        let mut before = None;
+        for len in 0..n {
+            let outcome = outcome(letter, &self.kept[..len]);
+            if before.replace(outcome) != Some(outcome) {
+                answer += &(word(len) + &word(outcome));
+            }
+        }
+        self.list.add(format!("o {n} {letter}"), answer);
     }
 
     /// Every byte at a place.
@@ -293,7 +341,7 @@ impl Session {
     }
 
     /// A payload of its own length, one byte less and one more.
-    fn edges(&mut self, letter: char, bytes: &[u8]) {
+    pub fn edges(&mut self, letter: char, bytes: &[u8]) {
         self.keep(bytes);
         for n in bytes.len().saturating_sub(1)..=bytes.len() + 1 {
             self.read(letter, n);
@@ -485,7 +533,7 @@ fn device(c: &mut Choice, name: &[u8]) -> Vec<u8> {
     out
 }
 
-fn paired_payload(c: &mut Choice, names: &[&[u8]]) -> Vec<u8> {
+pub fn paired_payload(c: &mut Choice, names: &[&[u8]]) -> Vec<u8> {
     let mut p = vec![0x37, 0x02, names.len() as u8];
     for name in names {
         p.extend(device(c, name));
@@ -592,8 +640,8 @@ fn setting_texts(s: &mut Session) {
         s.lengths('i', p.len() + 3);
     }
     let read = Reading::GeneralSettingInfo(GeneralSetting { slot: 0xD1, name: "".into(), summary: "\u{FFFD}".into() });
-    for (p, theirs, ours) in [(REPAIRED[0], None, 23), (REPAIRED[1], Some(&read), 23), (REPAIRED[2], Some(&read), 19)] {
-        assert_eq!(decoded(p, decode_general_setting_info).as_ref(), theirs);
+    for (p, theirs, ours) in [(REPAIRED[0], None, 23), (REPAIRED[1], Some(&read), 23), (REPAIRED[2], Some(&read), 26)] {
+        assert_eq!(Message::split(p).and_then(|m| decode_general_setting_info(&m)).as_ref(), theirs);
         assert_eq!(common::settings::texts(p), Err(ours));
         s.edges('i', p);
     }

@@ -1,4 +1,5 @@
 use Prim.Native.Nat.{_-_}
+use lib.ListN.{getD}
 use mathlib.Core.Path.{sym}
 use native.Mathlib.Omega.{arith}
 use borrow.Author.Needs.{needs}
@@ -6,14 +7,13 @@ use borrow.Author.Tests.{eq-eqb, ne-eqb}
 use Rattle.reading.specs.Items.{headed}
 use Rattle.reading.proofs.LawsItems.{walk-grows}
 use Rattle.reading.proofs.LawsReading.{read-short, read-unserved, read-unfit, read-fits}
-use Rattle.paired.specs.Paired.{countOf}
 use Rattle.paired.proofs.paired.decode_paired_devices.Statement.{statement}
 use Rattle.paired.proofs.paired.decode_paired_devices.Tie as tie
 
 returns-3 : tie.Need-returns-3
 returns-3 c =
     let p = c .before .before .before .before .before .args .payload .now in
-    sym (read-unfit _ _ _ p (record { long = omega arith; kind = eq-eqb _ _ (c .before .if2 .left) }) (λ e. omega (arith, walk-grows (headed 21) p (countOf p) 3)))
+    sym (read-unfit _ _ _ p (record { long = omega arith; kind = eq-eqb _ _ (c .before .if2 .left) }) (λ e. omega (arith, walk-grows (headed 21) p (getD p 2 0) 3)))
 
 pub decode-paired-devices-spec : {M : Type 1} → statement M
 decode-paired-devices-spec =

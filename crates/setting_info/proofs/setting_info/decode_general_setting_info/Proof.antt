@@ -1,14 +1,14 @@
 use Prim.Native.Nat.{_+_, _-_}
-use mathlib.Core.Path.{_≡_, sym, _∙_}
+use mathlib.Core.Path.{_≡_, refl, sym, _∙_}
 use native.Mathlib.Nat.{add-sub-cancel-left}
 use native.Mathlib.Omega.{arith}
 use lib.ListN.{length, getD}
 use Rattle.text.specs.Text.{charactersOf}
 use borrow.Author.Needs.{needs}
 use borrow.Author.Tests.{eq-eqb, ne-eqb, le-leb, lt-leb}
-use Rattle.reading.proofs.LawsReading.{read-short}
+use Rattle.reading.proofs.LawsReading.{read-short, wrong-length, right-length}
 use Rattle.setting_info.specs.SettingInfo.{nameAt, summaryAt, bytesAt, checkedTexts, infoContents, infoOf}
-use Rattle.setting_info.proofs.LawsSettingInfo.{info-unfit, info-fits, summary-place}
+use Rattle.setting_info.proofs.LawsSettingInfo.{summary-place, whole-length}
 use Rattle.setting_info.proofs.setting_info.decode_general_setting_info.Statement.{statement}
 use Rattle.setting_info.proofs.setting_info.decode_general_setting_info.Tie as tie
 
@@ -17,17 +17,21 @@ unfolding infoOf
 returns c = sym (read-short _ _ _ _ (c .if1 .taken))
 
 returns-2 : tie.Need-returns-2
-returns-2 c = sym (info-unfit _ (c .before .if1 .left) (λ e. omega arith))
+unfolding infoOf
+returns-2 c = sym (wrong-length _ _ _ _ (whole-length _) (c .before .if1 .left) refl (λ e. omega arith))
 
 returns-3 : tie.Need-returns-3
-returns-3 c = sym (info-unfit _ (c .before .before .before .if1 .left) (λ e. omega arith))
+unfolding infoOf
+returns-3 c = sym (wrong-length _ _ _ _ (whole-length _) (c .before .before .before .if1 .left) refl (λ e. omega arith))
 
 returns-4 : tie.Need-returns-4
-returns-4 c = sym (info-unfit _ (omega arith) (λ e. omega arith))
+unfolding infoOf
+returns-4 c = sym (wrong-length _ _ _ _ (whole-length _) (omega arith) refl (λ e. omega arith))
 
 -- both texts fill the payload: the contents decide
 fits : (c : tie.Else4) → let p = c .before .before .before .before .before .before .before .args .payload .now in infoOf p ≡ infoContents p
-fits c = info-fits _ (omega arith) (omega arith)
+unfolding infoOf
+fits c = right-length _ _ _ _ (whole-length _) (omega arith) refl (omega arith)
 
 returns-5 : tie.Need-returns-5
 unfolding infoContents

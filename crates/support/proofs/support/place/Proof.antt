@@ -14,7 +14,7 @@ returns-3 c =
     let told = c .before .before .before .before .check-support-functions .ensures in
     let n = c .before .before .count .given in
     let long = was-list (c .before .before .before .before .before .before .args .payload .now) (n .0 .0) (sym (rw (n .1) at told)) in
-    (omega (arith, c .if1 .left), omega (arith, long .1), λ rs l. rw (← told, n .1, le-ltb (length rs) (n .0 .0) (omega (arith, c .if1 .left))))
+    (omega (arith, c .if1 .left), omega (arith, long), λ rs l. rw (← told, n .1, le-ltb (length rs) (n .0 .0) (omega (arith, c .if1 .left))))
 
 pub place-spec : {M : Type 1} → statement M
 unfolding supportCall functions
