@@ -1,20 +1,21 @@
 -- The ranges held so far, and what the elements that are left come to.
-use Prim.Native.Nat.{ℕ, suc, _+_, _-_, _*_, _≤_, _<_}
+use Prim.Native.Nat.{ℕ, zero, suc, _+_, _-_, _*_, _≤_, _<_}
 use mathlib.Core.Path.{_≡_, refl, sym}
 use mathlib.Core.Bool.{Bool, true, false, _||_, Bool·beq}
-use mathlib.Core.List.{List, [], _∷_}
-use mathlib.Core.Option.{Option·elim}
+use mathlib.Core.List.{List, [], _∷_, _++_}
+use mathlib.Core.Option.{Option, none, some, Option·elim}
 use native.Mathlib.Omega.{arith}
 use native.Mathlib.Numerals.{add-one}
 use native.Mathlib.Nat.{sub-zero}
-use lib.Dec.{lit≤, lit<}
+use lib.Dec.{eqb, lit≤, lit<}
 use lib.ListN.{length, take, drop, getD, set, drop-of-length-le}
 use lib.Seq.{drop-cons, getD-take, length-take-le, take-suc-set}
-use Rattle.base.specs.Outcome.{Outcome, refused}
+use Rattle.base.specs.Outcome.{Outcome, refused, pick}
+use Rattle.reading.specs.Items.{itemAt}
 use Rattle.reading.proofs.LawsItems.{walk-fixed, own-fixed}
-use Rattle.reading.proofs.LawsReading.{OneLength, one-length, steady-counted}
+use Rattle.reading.proofs.LawsReading.{OneLength, one-length, steady-counted, Whole, Causes, causes, whole-accepted, whole-19, whole-pick, whole-on}
 use Rattle.range.specs.declared.range.AmbientRange.{AmbientRange}
-use Rattle.capability.specs.Capability.{Capability, capabilityTold, capabilityReport, heard, rangesFrom, rangesOf, blank, held, Reported, capabilityOf, elementOf, elementTold}
+use Rattle.capability.specs.Capability.{Capability, capabilityTold, capabilityReport, capabilityKind, elements, heard, rangesFrom, rangesOf, blank, held, Reported, capabilityOf, elementOf, elementTold}
 use Rattle.capability.specs.declared.capability.CapabilityAnswer.the-variants.{Kind}
 use Rattle.capability.specs.declared.capability.NoiseCapability.{NoiseCapability}
 use Rattle.capability.specs.declared.capability.Element.{Element}
@@ -121,3 +122,17 @@ reports s e = rw e (s .told, s .report)
 pub capability-length : OneLength capabilityOf
 unfolding capabilityOf
 capability-length = one-length _ _ _ (steady-counted 2 (own-fixed 4) 0)
+
+ranges-whole : (p : List ℕ) (n : ℕ) (seen : List AmbientRange) → Whole (rangesFrom p seen n)
+unfolding rangesFrom Option·elim
+ranges-whole p zero seen = whole-accepted seen
+ranges-whole p (suc n) seen = go (λ r. ranges-whole p n (seen ++ r ∷ [])) (elementOf p (itemAt (elements p) p (length seen)))
+  where
+    go : ((r : AmbientRange) → Whole (rangesFrom p (seen ++ r ∷ []) n)) → (o : Option AmbientRange)
+        → Whole (Option·elim o (refused 19 []) (λ r. pick (heard (r .voice) seen) (refused 19 []) (rangesFrom p (seen ++ r ∷ []) n)))
+    go rest none = whole-19
+    go rest (some r) = whole-pick (heard (r .voice) seen) whole-19 (rest r)
+
+pub capability-causes : Causes capabilityKind elements capabilityOf
+unfolding capabilityOf
+capability-causes = causes _ _ _ (λ p s. whole-pick (eqb (getD p 2 0) 0) whole-19 (whole-on _ _ (ranges-whole p (getD p 2 0) [])))

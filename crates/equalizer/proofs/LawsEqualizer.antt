@@ -4,7 +4,7 @@ use mathlib.Core.Path.{_≡_, refl, ap}
 use mathlib.Core.Bool.{cond, Bool, true, false}
 use mathlib.Core.List.{List}
 use native.Mathlib.Omega.{arith}
-use lib.Dec.{ltb, le→leb, lit≤}
+use lib.Dec.{eqb, ltb, le→leb, lit≤}
 use lib.IntN.{ℤ, pos, negsuc, subℕ, _-ℤ_}
 use lib.ListN.{length, drop, length-drop}
 use lib.Signed.{_≤ℤ_, leZ-yes}
@@ -13,8 +13,9 @@ use mir.Val.{SFits, toZ, ofZ}
 use mir.Facts.{toZ-pos}
 use borrow.Author.Tests.{ltb-true, ltb-false}
 use Rattle.base.specs.Outcome.{Outcome, accepted, refused}
+use Rattle.reading.specs.Items.{fixed, counted}
 use Rattle.reading.proofs.LawsItems.{own-fixed}
-use Rattle.reading.proofs.LawsReading.{was-counted, OneLength, one-length, steady-counted}
+use Rattle.reading.proofs.LawsReading.{was-counted, OneLength, one-length, steady-counted, Causes, causes, whole-accepted}
 use Rattle.equalizer.specs.Equalizer.{EqReport, equalizerOf, stepsOf, biasOf}
 use Rattle.equalizer.specs.declared.equalizer.EqShape.{EqShape}
 use Rattle.equalizer.specs.declared.equalizer.EqShape.the-variants.{ClearBassAndFive, TenBands, Unknown}
@@ -33,6 +34,10 @@ steps-place p r e =
 pub equalizer-length : OneLength equalizerOf
 unfolding equalizerOf
 equalizer-length = one-length _ _ _ (steady-counted 3 (own-fixed 1) 0)
+
+pub equalizer-causes : Causes (λ kind. eqb kind 0x00) (counted 3 (fixed 1) 0) equalizerOf
+unfolding equalizerOf
+equalizer-causes = causes _ _ _ (λ p s. whole-accepted _)
 
 -- a shape's bias is 6 or 10
 by-bias : (P : ℤ → Type 0) → P (pos 6) → P (pos 10) → (s : EqShape) → P (biasOf s)

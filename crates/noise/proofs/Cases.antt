@@ -2,10 +2,11 @@
 use mathlib.Core.Path.{_≡_, refl}
 use mathlib.Core.Bool.{true}
 use mathlib.Core.List.{[], _∷_}
+use lib.Dec.{eqb}
 use Rattle.base.specs.Outcome.{accepted}
 use Rattle.reading.specs.Items.{walk}
-use Rattle.reading.specs.Reading.{readingOf}
-use Rattle.reading.proofs.LawsReading.{OneLength, layout-length}
+use Rattle.reading.specs.Reading.{readingOf, byKind}
+use Rattle.reading.proofs.LawsReading.{OneLength, layout-length, Causes, layout-causes, either-layout, accepted-layout, no-layout}
 use Rattle.reading.specs.declared.message.OptionByte.the-variants.{Byte, NoByte}
 use Rattle.noise.specs.Noise.{noiseLayout, noiseOf}
 use Rattle.noise.specs.declared.noise.NoiseMode.the-variants.{Off}
@@ -29,3 +30,9 @@ case-i = refl
 pub noise-length : OneLength noiseOf
 unfolding noiseOf
 noise-length = layout-length noiseLayout
+
+pub noise-causes : Causes (λ k. noiseLayout k .serves) (byKind (λ k. noiseLayout k .len)) noiseOf
+unfolding noiseOf noiseLayout
+noise-causes = layout-causes noiseLayout (λ k.
+    either-layout (eqb k 0x15) (accepted-layout 7 _) (either-layout (eqb k 0x17) (accepted-layout 7 _) (either-layout (eqb k 0x19) (accepted-layout 9 _)
+    (either-layout (eqb k 0x22) (accepted-layout 6 _) (either-layout (eqb k 0x13) (accepted-layout 7 _) (either-layout (eqb k 0x01) (accepted-layout 5 _) no-layout))))))

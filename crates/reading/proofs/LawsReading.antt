@@ -7,10 +7,10 @@ use native.Mathlib.Omega.{arith}
 use lib.Dec.{eqb, ltb}
 use lib.ListN.{length, getD, length-append, List·getD-append}
 use borrow.Author.Tests.{eqb-true, eqb-false, eq-eqb, ne-eqb, ltb-true, ltb-false, lt-ltb, le-ltb}
-use Rattle.base.specs.Outcome.{Outcome, accepted, refused}
+use Rattle.base.specs.Outcome.{Outcome, accepted, refused, pick, onAccepted}
 use Rattle.reading.specs.Message.{kindOf}
 use Rattle.reading.specs.Items.{Size, Items, fixed, counted, itemAt, lengthBy}
-use Rattle.reading.specs.Reading.{readingOf, countReading, Layout, byKind, layoutReading}
+use Rattle.reading.specs.Reading.{readingOf, countReading, Layout, layout, noLayout, byKind, layoutReading}
 use Rattle.reading.proofs.LawsItems.{walk-grows, walk-mono, walk-fixed, apart, Own, walk-longer}
 
 module _ {A : Type 0} (serves : ℕ → Bool) (items : List ℕ → Items) (contents : List ℕ → Outcome A) (p : List ℕ) where
@@ -70,6 +70,50 @@ module _ {A : Type 0} (serves : ℕ → Bool) (items : List ℕ → Items) (cont
       go (by-length s n e) = let z : _≡_ {A = ℕ} 0 1 = cc in absurd (omega arith)
       go (by-contents f e) = (f, sym e ∙ h)
 
+-- an answer that is neither 25 nor 26
+pub record Whole {A : Type 0} (o : Outcome A) : Type 0 where
+  pub kind : o ≡ refused 25 [] → ⊥
+  pub length : o ≡ refused 26 [] → ⊥
+
+pub whole-accepted : {A : Type 0} (a : A) → Whole (accepted a)
+whole-accepted a = record { kind = λ e. let z : _≡_ {A = ℕ} 0 1 = cc in absurd (omega arith); length = λ e. let z : _≡_ {A = ℕ} 0 1 = cc in absurd (omega arith) }
+
+pub whole-19 : {A : Type 0} → Whole {A = A} (refused 19 [])
+whole-19 = record { kind = λ e. let z : _≡_ {A = ℕ} 19 25 = cc in absurd (omega arith); length = λ e. let z : _≡_ {A = ℕ} 19 26 = cc in absurd (omega arith) }
+
+pub whole-pick : {A : Type 0} (t : Bool) {o q : Outcome A} → Whole o → Whole q → Whole (pick t o q)
+whole-pick true w v = w
+whole-pick false w v = v
+
+pub whole-on : {A B : Type 0} (f : A → B) (o : Outcome A) → Whole o → Whole (onAccepted f o)
+whole-on f (accepted a) w = whole-accepted (f a)
+whole-on f (refused n vs) w = record {
+  kind = λ e. let a : n ≡ 25 = cc in let b : vs ≡ [] = cc in w .kind (rw (a, b));
+  length = λ e. let a : n ≡ 26 = cc in let b : vs ≡ [] = cc in w .length (rw (a, b));
+}
+
+-- 25 is given for the kind alone, and 26 for the length alone
+pub record Causes {A : Type 0} (serves : ℕ → Bool) (items : List ℕ → Items) (reading : List ℕ → Outcome A) : Type 0 where
+  pub kind-alone : (p : List ℕ) → reading p ≡ refused 25 [] → 2 ≤ length p → serves (kindOf p) ≡ true → ⊥
+  pub length-alone : (p : List ℕ) → reading p ≡ refused 26 [] → (2 ≤ length p) × (serves (kindOf p) ≡ true) × (lengthBy (items p) p ≡ length p → ⊥)
+
+-- where the contents give neither
+pub causes : {A : Type 0} (serves : ℕ → Bool) (items : List ℕ → Items) (contents : List ℕ → Outcome A) → ((p : List ℕ) → serves (kindOf p) ≡ true → Whole (contents p)) → Causes serves items (readingOf serves items contents)
+causes serves items contents whole = record {
+  kind-alone = λ p h long kind. by-25 p h (record { long = long; kind = kind }) (decided serves items contents p);
+  length-alone = λ p h. by-26 p h (decided serves items contents p);
+}
+  where
+    by-25 : (p : List ℕ) → readingOf serves items contents p ≡ refused 25 [] → Served serves items contents p → Decided serves items contents p → ⊥
+    by-25 p h s (by-kind n e) = n s
+    by-25 p h s (by-length t n e) = let z : _≡_ {A = ℕ} 25 26 = cc in absurd (omega arith)
+    by-25 p h s (by-contents f e) = whole p (s .kind) .kind (sym e ∙ h)
+
+    by-26 : (p : List ℕ) → readingOf serves items contents p ≡ refused 26 [] → Decided serves items contents p → (2 ≤ length p) × (serves (kindOf p) ≡ true) × (lengthBy (items p) p ≡ length p → ⊥)
+    by-26 p h (by-kind n e) = let z : _≡_ {A = ℕ} 25 26 = cc in absurd (omega arith)
+    by-26 p h (by-length s n e) = (s .long, s .kind, n)
+    by-26 p h (by-contents f e) = absurd (whole p (f .served .kind) .length (sym e ∙ h))
+
 -- items that bytes behind the payload leave as they are
 abbrev pub Steady : (List ℕ → Items) → Type 0
 Steady items = (p r : List ℕ) → 2 ≤ length p → lengthBy (items p) p ≤ length p → lengthBy (items (p ++ r)) (p ++ r) ≡ lengthBy (items p) p
@@ -86,11 +130,6 @@ steady-counted place {size} own behind p r long h =
 
 pub steady-kind : (len : ℕ → ℕ) → Steady (byKind len)
 steady-kind len p r long h = omega (arith, walk-fixed (len (kindOf (p ++ r))) (p ++ r) 1 0, walk-fixed (len (kindOf p)) p 1 0, ap len (List·getD-append p r 0 1 (omega arith)))
-
--- kind and length are right
-pub record Whole {A : Type 0} (o : Outcome A) : Type 0 where
-  pub kind : o ≡ refused 25 [] → ⊥
-  pub length : o ≡ refused 26 [] → ⊥
 
 -- "bytes run out, are too many": a payload that is whole, with bytes behind it, and cut anywhere behind its kind
 pub record OneLength {A : Type 0} (reading : List ℕ → Outcome A) : Type 0 where
@@ -124,6 +163,23 @@ module _ {A : Type 0} (serves : ℕ → Bool) (items : List ℕ → Items) (cont
 
 pub layout-length : {A : Type 0} (layouts : ℕ → Layout A) → OneLength (layoutReading layouts)
 layout-length layouts = one-length _ _ _ (steady-kind (λ k. layouts k .len))
+
+-- a layout whose contents are whole where its kind is served
+pub record WholeLayout {A : Type 0} (l : Layout A) : Type 0 where
+  pub contents : l .serves ≡ true → (p : List ℕ) → Whole (l .contents p)
+
+pub either-layout : {A : Type 0} (t : Bool) {l m : Layout A} → WholeLayout l → WholeLayout m → WholeLayout (pick t l m)
+either-layout true w v = w
+either-layout false w v = v
+
+pub accepted-layout : {A : Type 0} (len : ℕ) (f : List ℕ → A) → WholeLayout (layout len (λ p. accepted (f p)))
+accepted-layout len f = record { contents = λ e p. whole-accepted (f p) }
+
+pub no-layout : {A : Type 0} → WholeLayout {A = A} noLayout
+no-layout = record { contents = λ e p. let z : _≡_ {A = ℕ} 0 1 = cc in absurd (omega arith) }
+
+pub layout-causes : {A : Type 0} (layouts : ℕ → Layout A) → ((k : ℕ) → WholeLayout (layouts k)) → Causes (λ k. layouts k .serves) (byKind (λ k. layouts k .len)) (layoutReading layouts)
+layout-causes layouts whole = causes _ _ _ (λ p s. whole (kindOf p) .contents s p)
 
 -- a count at a place, and as many items of one size, to the end
 module _ {A : Type 0} (serves : ℕ → Bool) (place size : ℕ) (contents : List ℕ → Outcome A) (p : List ℕ) where

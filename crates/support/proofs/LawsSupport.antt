@@ -4,18 +4,23 @@ use mathlib.Core.Path.{_≡_, refl, ap, _∙_}
 use mathlib.Core.List.{List, [], _∷_}
 use native.Mathlib.Omega.{arith}
 use native.Mathlib.Numerals.{add-one}
+use lib.Dec.{eqb}
 use lib.ListN.{length, getD, drop, set, length-append, length-drop}
 use lib.Seq.{drop-cons, set-at, append-snoc}
 use Rattle.base.specs.Outcome.{accepted}
-use Rattle.reading.specs.Items.{fixed}
+use Rattle.reading.specs.Items.{fixed, counted}
 use Rattle.reading.proofs.LawsItems.{walk-fixed, own-fixed}
-use Rattle.reading.proofs.LawsReading.{OneLength, one-length, steady-counted, was-count}
+use Rattle.reading.proofs.LawsReading.{OneLength, one-length, steady-counted, Causes, causes, whole-accepted, was-count}
 use Rattle.support.specs.declared.support.SupportFunction.{SupportFunction}
 use Rattle.support.specs.Support.{checkOf, functionAt, functions, recordsWith}
 
 pub check-length : OneLength checkOf
 unfolding checkOf
 check-length = one-length _ _ _ (steady-counted 2 (own-fixed 2) 0)
+
+pub check-causes : Causes (λ kind. eqb kind 0x00) (counted 2 (fixed 2) 0) checkOf
+unfolding checkOf
+check-causes = causes _ _ _ (λ p s. whole-accepted _)
 
 -- an accepted list has so many functions
 pub was-list : (p : List ℕ) (n : ℕ) → checkOf p ≡ accepted n → length p ≡ 3 + 2 * n
