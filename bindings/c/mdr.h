@@ -45,10 +45,11 @@ enum mdr_refusal {
     MDR_TOO_FEW_RECORDS = 20,
     MDR_NO_SUCH_DEVICE = 21,
     MDR_STEP_ZERO = 22,
-    MDR_NOT_TEXT = 23,    /* a setting's name or summary is not UTF-8 */
-    MDR_NOT_A_LINE = 24,  /* none of the four forms of a log's line */
-    MDR_WRONG_KIND = 25,  /* a payload of fewer than 2 bytes, or of a kind that the decoder does not serve */
-    MDR_WRONG_LENGTH = 26 /* a served kind whose bytes run out, are too many, or do not match a count */
+    MDR_NOT_TEXT = 23,     /* a setting's name or summary is not UTF-8 */
+    MDR_NOT_A_LINE = 24,   /* none of the four forms of a log's line */
+    MDR_WRONG_KIND = 25,   /* a payload of fewer than 2 bytes, or of a kind that the decoder does not serve */
+    MDR_WRONG_LENGTH = 26, /* a served kind whose bytes run out, are too many, or do not match a count */
+    MDR_COUNT_FULL = 27    /* a count of the scanner's would pass 18446744073709551615 */
 };
 
 /* ---- frames ---- */
@@ -89,18 +90,27 @@ uint8_t mdr_read_header(const uint8_t *frame, size_t frame_len, uint64_t *values
  *
  * The caller keeps the state, and a store that is longer than the limit. The held bytes are the first `count` of the store. Each call is
  * lent both as the call before left them. The state is in the struct alone, so a short `values` loses nothing that the next call needs.
- * Every call that is lent both tries 1 to 3, and where it refuses leaves both as they were; mdr_open makes the state in any case. */
+ * Every call that is lent both tries 1 to 3, and where it refuses leaves both as they were; mdr_open makes the state in any case.
+ *
+ * The state counts where the bytes went: from an accepted opening on, after every call, `pushed` is `handed`, `dropped` and `count` added
+ * up. A call that would carry a count above 18446744073709551615 is refused by 27. From an accepted opening on that is always a push;
+ * mdr_take, mdr_skip and the line calls are refused by 27 only where the caller has set the counts itself. A refused call counts nothing,
+ * but for the lines that mdr_all_lines wrote before it was refused. */
 
 struct mdr_scanner {
     size_t limit; /* 9 to 65536 */
     size_t count;
+    uint64_t pushed;  /* bytes of the pushes that were accepted */
+    uint64_t handed;  /* bytes of the spans that went, markers included */
+    uint64_t dropped; /* bytes that went outside of a span: before a START, or cleared */
 };
 
-/* The state becomes this limit with nothing held, whatever it was, and the store is filled with zeros. Refused (1, 2), the state becomes
- * the same, and the store stays. */
+/* The state becomes this limit with nothing held and nothing counted, whatever it was, and the store is filled with zeros. Refused (1, 2),
+ * the state becomes the same, and the store stays. */
 uint8_t mdr_open(struct mdr_scanner *scanner, size_t limit, uint8_t *store, size_t store_len);
 
-/* Puts the piece behind the held bytes. Refused by 4 where not all of it fits. */
+/* Puts the piece behind the held bytes and counts it as pushed. Refused by 4 where not all of it fits, then by 27 where the count would be
+ * too high: an empty piece by neither. */
 uint8_t mdr_push(struct mdr_scanner *scanner, uint8_t *store, size_t store_len, const uint8_t *piece, size_t piece_len);
 
 /* [1, offset, length] of the first span among the held bytes, from the first START to the first END behind it, markers included, or [0]
@@ -109,12 +119,15 @@ uint8_t mdr_find(const struct mdr_scanner *scanner, const uint8_t *store, size_t
 
 /* [1] where a span went, else [0]. The first span and what stands before it go. With no span: where no START is among the held bytes,
  * all of them go; else those before the first START go, and where from it on more than the limit is held, these go too. So then at most
- * the limit is held, and one more byte has room, since the store is longer than that. What stays moves to the front, and every byte of
- * the store behind it becomes zero. */
+ * the limit is held, and one more byte has room, since the store is longer than that, and is accepted unless the pushed count is full.
+ * What stays moves to the front, and every byte of the store behind it becomes zero. The span is counted as handed over, all else that
+ * goes as dropped. Refused by 27 where either count would be too high, nothing changes. */
 uint8_t mdr_take(struct mdr_scanner *scanner, uint8_t *store, size_t store_len, uint64_t *values, size_t values_len);
 
-/* The first n held bytes go, no more than are held. What stays is left as by mdr_take. */
-uint8_t mdr_skip(struct mdr_scanner *scanner, uint8_t *store, size_t store_len, size_t n);
+/* As many held bytes go, from the front on, as `dropped` and `handed` are together, and are counted so; where fewer are held, all of them,
+ * the first `dropped` of these as dropped. What stays is left as by mdr_take. For a caller that has read spans where they stand: `dropped`
+ * is the sum of what stood before and between them, `handed` that of their lengths. Refused by 27 where either count would be too high. */
+uint8_t mdr_skip(struct mdr_scanner *scanner, uint8_t *store, size_t store_len, size_t dropped, size_t handed);
 
 /* [0] no START among the bytes; [1, offset] a START and no END behind it; [2, offset, length] of the first span. Takes any bytes, so
  * that spans can be read where they stand, one behind the other, and then skipped together. Never refuses: the status is 0. */
@@ -213,8 +226,9 @@ void mdr_house_plan(uint8_t plan[MDR_PLAN_LEN]);
 bool mdr_plan_fine(const uint8_t *plan, size_t plan_len);
 
 /* [length of the line], 0 where no span is held: a line is never empty. Writes the next span's line to the front of `out`, its newline
- * included, and takes the span; with no span it does what mdr_take does and leaves `out`. All of `work`, which is no shorter than the
- * store, is zero after both. Refused (1, 2, 3, 5, 6), nothing changes; refused by 7, `work` is zero and nothing else changes.
+ * included, and takes the span as mdr_take does; with no span it does what mdr_take does and leaves `out`. All of `work`, which is no
+ * shorter than the store, is zero after both. Refused (1, 2, 3, 5, 6, then 27 where mdr_take is), nothing changes; refused by 7, which is
+ * tried last, `work` is zero and nothing else changes. No line depends on the counts.
  *
  * How large an output never refuses: after an accepted mdr_open and any list of pushes and line calls, with a fine plan, a work area as
  * long as the store and an output of four times the store's length, no line call is refused (`never-refused` in crates/log/proofs/Sizes). */
@@ -223,7 +237,8 @@ uint8_t mdr_line(struct mdr_scanner *scanner, uint8_t *store, size_t store_len, 
 
 /* [length of the lines together], told whatever the status is. Does what calls of mdr_line do, one after the other until one writes no
  * line, each lent the output behind the lines before it; the store is moved once. 0: no span is left. 7: the next line has no room behind
- * those written, and its span is kept. Otherwise (1, 2, 3, 5, 6) nothing changes.
+ * those written, and its span is kept. 27: the next line call would carry a count too high; `work` is zero where a line was written before
+ * it, else nothing changes. Otherwise (1, 2, 3, 5, 6) nothing changes.
  *
  * With the sizes that never refuse mdr_line the first line has room, so a call refused by 7 has written at least one. */
 uint8_t mdr_all_lines(struct mdr_scanner *scanner, uint8_t *store, size_t store_len, const uint8_t *plan, size_t plan_len, uint8_t *work,

@@ -37,6 +37,8 @@ pub enum Refusal {
     WrongKind,
     /// a served kind whose bytes run out, are too many, or do not match a count; tried next
     WrongLength,
+    /// a call that would carry a count of the scanner above `u64::MAX`
+    CountFull,
     /// a status of a later library, which this crate has no name for
     Unlisted(u8),
 }
@@ -72,6 +74,7 @@ impl Refusal {
             24 => Refusal::NotALine,
             25 => Refusal::WrongKind,
             26 => Refusal::WrongLength,
+            27 => Refusal::CountFull,
             other => Refusal::Unlisted(other),
         }
     }
@@ -105,6 +108,7 @@ impl Refusal {
             Refusal::NotALine => 24,
             Refusal::WrongKind => 25,
             Refusal::WrongLength => 26,
+            Refusal::CountFull => 27,
             Refusal::Unlisted(number) => number,
         }
     }
@@ -143,6 +147,7 @@ impl std::fmt::Display for Refusal {
             Refusal::NotALine => write!(f, "the bytes are not one line of a log, its newline included"),
             Refusal::WrongKind => write!(f, "the payload has fewer than 2 bytes, or a kind that this decoder does not serve"),
             Refusal::WrongLength => write!(f, "the payload is shorter or longer than its kind and its counts say"),
+            Refusal::CountFull => write!(f, "a count of bytes would pass 18446744073709551615"),
             Refusal::Unlisted(number) => write!(f, "refused by {number}, for which there is no name here"),
         }
     }
@@ -323,14 +328,18 @@ pub struct Span {
     pub len: usize,
 }
 
+/// From an accepted opening on, `pushed` is `handed`, `dropped` and `count` added up, after every call, and only `push` is ever refused by
+/// `CountFull`; the others are only where the caller has set the counts. A refused call counts nothing, but for the lines that `all_lines`
+/// wrote before it was refused.
 impl Scanner {
-    /// Fills the store with zeros.
+    /// Fills the store with zeros; nothing is held, and nothing counted.
     pub fn open(limit: usize, store: &mut [u8]) -> Result<Scanner, Refusal> {
-        let mut scanner = Scanner { limit, count: 0 };
+        let mut scanner = Scanner::default();
         let status = unsafe { sys::mdr_open(&mut scanner, limit, store.as_mut_ptr(), store.len()) };
         accepted(status, &[]).map(|()| scanner)
     }
 
+    /// Counts the piece as pushed. Refused by `StoreFull`, then by `CountFull`; an empty piece by neither.
     pub fn push(&mut self, store: &mut [u8], piece: &[u8]) -> Result<(), Refusal> {
         accepted(unsafe { sys::mdr_push(self, store.as_mut_ptr(), store.len(), piece.as_ptr(), piece.len()) }, &[])
     }
@@ -341,19 +350,20 @@ impl Scanner {
         Ok((v[0] == 1).then_some(Span { at: v[1] as usize, len: v[2] as usize }))
     }
 
-    /// Whether a span went.
+    /// Whether a span went. It is counted as handed over, what else went as dropped.
     pub fn take(&mut self, store: &mut [u8]) -> Result<bool, Refusal> {
         let v: [u64; 2] = told(|v, n| unsafe { sys::mdr_take(self, store.as_mut_ptr(), store.len(), v, n) })?;
         Ok(v[0] == 1)
     }
 
-    /// The first `n` held bytes go, no more than are held.
-    pub fn skip(&mut self, store: &mut [u8], n: usize) -> Result<(), Refusal> {
-        accepted(unsafe { sys::mdr_skip(self, store.as_mut_ptr(), store.len(), n) }, &[])
+    /// For spans that were read where they stand, by `seek`: `dropped` is how many bytes stood before and between them, `handed` how many
+    /// they have together. As many held bytes go and are counted so; where fewer are held, all of them, the first `dropped` as dropped.
+    pub fn skip(&mut self, store: &mut [u8], dropped: usize, handed: usize) -> Result<(), Refusal> {
+        accepted(unsafe { sys::mdr_skip(self, store.as_mut_ptr(), store.len(), dropped, handed) }, &[])
     }
 
     /// The length of the next span's line, written to the front of `out`, or none where no span is held. From an accepted opening
-    /// on, an `out` of four times the store's length is never too short.
+    /// on, an `out` of four times the store's length is never too short. The bytes that go are counted as by `take`.
     pub fn line(&mut self, store: &mut [u8], plan: &[u8], work: &mut [u8], out: &mut [u8]) -> Result<Option<usize>, Refusal> {
         let v: [u64; 2] = told(|v, n| unsafe {
             sys::mdr_line(
@@ -374,7 +384,7 @@ impl Scanner {
     }
 
     /// The lines of all held spans, written to the front of `out`: their length together, and why no more were written, nothing where no
-    /// span is left.
+    /// span is left. The bytes that go are counted as by `take`.
     pub fn all_lines(&mut self, store: &mut [u8], plan: &[u8], work: &mut [u8], out: &mut [u8]) -> (usize, Result<(), Refusal>) {
         let mut v = [0; 1];
         let status = unsafe {

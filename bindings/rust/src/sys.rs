@@ -2,10 +2,16 @@
 
 /// The scanner's state. The caller lends each call the store, the same one as left by the call before.
 #[repr(C)]
-#[derive(Clone, Copy, Debug, PartialEq, Eq)]
+#[derive(Clone, Copy, Debug, Default, PartialEq, Eq)]
 pub struct Scanner {
     pub limit: usize,
     pub count: usize,
+    /// bytes of the pushes that were accepted
+    pub pushed: u64,
+    /// bytes of the spans that went, markers included
+    pub handed: u64,
+    /// bytes that went outside of a span
+    pub dropped: u64,
 }
 
 #[repr(C)]
@@ -39,7 +45,7 @@ unsafe extern "C" {
     pub fn mdr_push(scanner: *mut Scanner, store: *mut u8, store_len: usize, piece: *const u8, piece_len: usize) -> u8;
     pub fn mdr_find(scanner: *const Scanner, store: *const u8, store_len: usize, values: *mut u64, values_len: usize) -> u8;
     pub fn mdr_take(scanner: *mut Scanner, store: *mut u8, store_len: usize, values: *mut u64, values_len: usize) -> u8;
-    pub fn mdr_skip(scanner: *mut Scanner, store: *mut u8, store_len: usize, n: usize) -> u8;
+    pub fn mdr_skip(scanner: *mut Scanner, store: *mut u8, store_len: usize, dropped: usize, handed: usize) -> u8;
     pub fn mdr_seek(bytes: *const u8, bytes_len: usize, values: *mut u64, values_len: usize) -> u8;
 
     pub fn mdr_message(payload: *const u8, payload_len: usize, values: *mut u64, values_len: usize) -> u8;

@@ -90,8 +90,10 @@ fn refusals() {
     assert_eq!(battery(&[]).unwrap_err().to_string(), kind);
     let length = "the payload is shorter or longer than its kind and its counts say";
     assert_eq!(battery(&[0x23, 0x00]).unwrap_err().to_string(), length);
-    assert_eq!(Refusal::Unlisted(27).number(), 27);
-    assert_eq!(Refusal::Unlisted(27).to_string(), "refused by 27, for which there is no name here");
+    assert_eq!(Refusal::CountFull.number(), 27);
+    assert_eq!(Refusal::CountFull.to_string(), "a count of bytes would pass 18446744073709551615");
+    assert_eq!(Refusal::Unlisted(28).number(), 28);
+    assert_eq!(Refusal::Unlisted(28).to_string(), "refused by 28, for which there is no name here");
 }
 
 #[test]
@@ -120,11 +122,201 @@ fn scanner() {
     assert_eq!(s.take(&mut store), Ok(false));
     assert_eq!((s.count, store), (0, [0; 16]));
 
-    let mut other = Scanner { limit: 9, count: 17 };
+    let beyond = Scanner { limit: 9, count: 17, ..Scanner::default() };
+    let mut other = beyond;
     assert_eq!(other.take(&mut store), Err(Refusal::HeldBeyondStore));
     assert_eq!(other.find(&store), Err(Refusal::HeldBeyondStore));
-    assert_eq!(other, Scanner { limit: 9, count: 17 });
-    assert_eq!(Scanner { limit: 8, count: 0 }.skip(&mut store, 1), Err(Refusal::LimitOutOfRange));
+    assert_eq!(other, beyond);
+    assert_eq!(Scanner { limit: 8, ..beyond }.skip(&mut store, 1, 0), Err(Refusal::LimitOutOfRange));
+}
+
+/// The most that a count can be.
+const GREATEST: u64 = u64::MAX;
+
+fn counts(s: &Scanner) -> [u64; 3] {
+    [s.pushed, s.handed, s.dropped]
+}
+
+/// Each count is the sum of what the calls did; a refused one counts nothing.
+#[test]
+fn counted() {
+    let (mut store, mut work, mut out) = ([0xEE; 16], [0xEE; 16], [0xEE; 64]);
+    // Counts of a session before are gone, also where the opening is refused.
+    let full = Scanner { limit: 9, count: 3, pushed: GREATEST, handed: GREATEST, dropped: GREATEST };
+    for (limit, status) in [(9, 0), (8, 1), (16, 2)] {
+        let mut other = full;
+        assert_eq!(unsafe { sys::mdr_open(&mut other, limit, store.as_mut_ptr(), store.len()) }, status);
+        assert_eq!(other, Scanner { limit, ..Scanner::default() });
+    }
+    let mut s = Scanner::open(9, &mut store).unwrap();
+    assert_eq!(counts(&s), [0; 3]);
+    s.push(&mut store, &[]).unwrap();
+    s.push(&mut store, &[7, 7, 0x3E, 1, 0x3C, 7, 0x3E, 0x3C, 7]).unwrap();
+    assert_eq!(s.push(&mut store, &[0; 8]), Err(Refusal::StoreFull));
+    assert_eq!((s.count, counts(&s)), (9, [9, 0, 0]));
+    s.find(&store).unwrap();
+    assert_eq!(s.line(&mut store, &house_plan(), &mut work, &mut []), Err(Refusal::LineTooLong));
+    assert_eq!((s.count, counts(&s)), (9, [9, 0, 0]));
+    assert_eq!(s.take(&mut store), Ok(true));
+    assert_eq!((s.count, counts(&s)), (4, [9, 3, 2]));
+    assert_eq!(s.line(&mut store, &house_plan(), &mut work, &mut out), Ok(Some(5)));
+    assert_eq!((s.count, counts(&s)), (1, [9, 5, 3]));
+    assert_eq!(s.line(&mut store, &house_plan(), &mut work, &mut out), Ok(None));
+    assert_eq!((s.count, counts(&s)), (0, [9, 5, 4]));
+
+    // A START whose END does not come: what stands before it goes, then all that is held.
+    s.push(&mut store, &[7, 0x3E, 1, 1, 1, 1, 1, 1, 1, 1]).unwrap();
+    assert_eq!(s.take(&mut store), Ok(false));
+    assert_eq!((s.count, counts(&s)), (9, [19, 5, 5]));
+    s.push(&mut store, &[1]).unwrap();
+    assert_eq!(s.take(&mut store), Ok(false));
+    assert_eq!((s.count, counts(&s)), (0, [20, 5, 15]));
+
+    // Two spans with a byte before and two between, and one byte that stays.
+    s.push(&mut store, &[7, 0x3E, 0x3C, 7, 7, 0x3E, 1, 0x3C, 0x3E]).unwrap();
+    s.skip(&mut store, 3, 5).unwrap();
+    assert_eq!((s.count, store[0], counts(&s)), (1, 0x3E, [29, 10, 18]));
+    s.skip(&mut store, 0, 0).unwrap();
+    assert_eq!((s.count, counts(&s)), (1, [29, 10, 18]));
+    // No more go than are held, those that are dropped first.
+    s.push(&mut store, &[1, 2]).unwrap();
+    s.skip(&mut store, 1, usize::MAX).unwrap();
+    assert_eq!((s.count, counts(&s)), (0, [31, 12, 19]));
+    s.push(&mut store, &[1, 2, 3]).unwrap();
+    s.skip(&mut store, usize::MAX, usize::MAX).unwrap();
+    assert_eq!((s.count, counts(&s)), (0, [34, 12, 22]));
+
+    s.push(&mut store, &[7, 0x3E, 0x3C, 0x3E, 1, 0x3C, 7, 0x3E]).unwrap();
+    assert_eq!(s.all_lines(&mut store, &house_plan(), &mut work, &mut out), (10, Ok(())));
+    assert_eq!((s.count, counts(&s)), (1, [42, 17, 24]));
+}
+
+/// A scanner of limit 9 that holds these bytes, with so much room in each count, and its store.
+fn near(held: &[u8], room: [u64; 3]) -> (Scanner, [u8; 16]) {
+    let mut store = [0; 16];
+    let mut s = Scanner::open(9, &mut store).unwrap();
+    s.push(&mut store, held).unwrap();
+    let [pushed, handed, dropped] = room.map(|room| GREATEST - room);
+    (Scanner { pushed, handed, dropped, ..s }, store)
+}
+
+/// Makes a call in a state with so much room in each count: accepted where it is enough for what the call adds, else refused by 27 with
+/// state and store as they were.
+fn at_the_end<T: PartialEq + std::fmt::Debug>(
+    held: &[u8],
+    adds: [u64; 3],
+    accepts: T,
+    call: impl Fn(&mut Scanner, &mut [u8]) -> Result<T, Refusal>,
+) {
+    for which in 0..3 {
+        for more in [-1, 0, 1] {
+            let Some(least) = adds[which].checked_add_signed(more) else { continue };
+            let mut room = adds;
+            room[which] = least;
+            let (before, store_before) = near(held, room);
+            let (mut s, mut store) = (before, store_before);
+            let answer = call(&mut s, &mut store);
+            if more < 0 {
+                assert_eq!(answer, Err(Refusal::CountFull));
+                assert_eq!((s, store), (before, store_before));
+            } else {
+                assert_eq!(answer.as_ref(), Ok(&accepts));
+                let left: Vec<u64> = room.iter().zip(adds).map(|(room, add)| room - add).collect();
+                assert_eq!(counts(&s).map(|count| GREATEST - count)[..], left);
+            }
+        }
+    }
+}
+
+#[test]
+fn counts_at_the_greatest() {
+    at_the_end(&[], [0, 0, 0], (), |s, store| s.push(store, &[]));
+    at_the_end(&[1], [3, 0, 0], (), |s, store| s.push(store, &[0x3E, 1, 0x3C]));
+    let (noise_and_span, cleared) = ([7, 7, 0x3E, 1, 0x3C, 7], [7, 0x3E, 1, 1, 1, 1, 1, 1, 1, 1, 1]);
+    let take = |s: &mut Scanner, store: &mut [u8]| s.take(store);
+    at_the_end(&[], [0, 0, 0], false, take);
+    at_the_end(&noise_and_span, [0, 3, 2], true, take);
+    at_the_end(&[7, 7], [0, 0, 2], false, take);
+    at_the_end(&[7, 0x3E, 1], [0, 0, 1], false, take);
+    at_the_end(&cleared, [0, 0, 11], false, take);
+    at_the_end(&noise_and_span, [0, 3, 2], (), |s, store| s.skip(store, 2, 3));
+    at_the_end(&noise_and_span, [0, 1, 5], (), |s, store| s.skip(store, 5, usize::MAX));
+    at_the_end(&noise_and_span, [0, 0, 6], (), |s, store| s.skip(store, usize::MAX, 1));
+
+    // The work area and the output stay by 27, and 27 comes before 7 and behind 6.
+    let line = |room: usize| {
+        move |s: &mut Scanner, store: &mut [u8]| {
+            let (mut work, mut out) = ([0xEE; 16], [0xEE; 8]);
+            let answer = s.line(store, &house_plan(), &mut work, &mut out[..room]);
+            if answer == Err(Refusal::CountFull) {
+                assert_eq!((work, out), ([0xEE; 16], [0xEE; 8]));
+                assert_eq!(s.line(store, &house_plan(), &mut work[..15], &mut out), Err(Refusal::WorkTooShort));
+            } else {
+                assert_eq!(work, [0; 16]);
+            }
+            answer
+        }
+    };
+    at_the_end(&noise_and_span, [0, 3, 2], Some(5), line(5));
+    at_the_end(&[7, 7], [0, 0, 2], None, line(0));
+    at_the_end(&cleared, [0, 0, 11], None, line(0));
+    for (room, refusal) in [([0, 3, 2], Refusal::LineTooLong), ([0, 2, 2], Refusal::CountFull), ([0, 3, 1], Refusal::CountFull)] {
+        let (before, mut store) = near(&noise_and_span, room);
+        let mut s = before;
+        assert_eq!(line(4)(&mut s, &mut store), Err(refusal));
+        assert_eq!(s, before);
+    }
+    // 4 is tried before 27, and a lower one before both.
+    let (mut s, mut store) = near(&[], [0; 3]);
+    assert_eq!(s.push(&mut store, &[0; 17]), Err(Refusal::StoreFull));
+    assert_eq!(s.push(&mut store[..9], &[1]), Err(Refusal::StoreTooShort));
+    assert_eq!(s.push(&mut store, &[1]), Err(Refusal::CountFull));
+    s.limit = 8;
+    assert_eq!(s.push(&mut store, &[1]), Err(Refusal::LimitOutOfRange));
+}
+
+/// Lines before the one that is refused by 27 are written, and stay.
+#[test]
+fn lines_up_to_the_greatest() {
+    let held = [7, 0x3E, 0x3C, 7, 7, 0x3E, 1, 0x3C, 7];
+    for (room, ready, answer, count, left) in [
+        ([0, 5, 4], 10, Ok(()), 0, [0, 0, 0]),
+        ([0, 5, 3], 10, Err(Refusal::CountFull), 1, [0, 0, 0]),
+        ([0, 4, 4], 5, Err(Refusal::CountFull), 6, [0, 2, 3]),
+        ([0, 5, 2], 5, Err(Refusal::CountFull), 6, [0, 3, 1]),
+        ([0, 1, 4], 0, Err(Refusal::CountFull), 9, [0, 1, 4]),
+        ([0, 5, 0], 0, Err(Refusal::CountFull), 9, [0, 5, 0]),
+    ] {
+        let (mut s, mut store) = near(&held, room);
+        let (mut work, mut out) = ([0xEE; 16], [0xEE; 16]);
+        assert_eq!(s.all_lines(&mut store, &house_plan(), &mut work, &mut out), (ready, answer));
+        assert_eq!((s.count, counts(&s).map(|count| GREATEST - count)), (count, left));
+        assert_eq!(store[..count], held[9 - count..]);
+        assert_eq!(work, [if ready == 0 { 0xEE } else { 0 }; 16]);
+        assert_eq!(out[..ready], b"R 08\nR 08\n"[..ready]);
+        assert!(out[ready..].iter().all(|&b| b == 0xEE));
+    }
+    // A line without room is refused by 7 where its span could still be counted, else by 27.
+    for (room, refusal) in [([0, 5, 4], Refusal::LineTooLong), ([0, 4, 4], Refusal::CountFull)] {
+        let (mut s, mut store) = near(&held, room);
+        assert_eq!(s.all_lines(&mut store, &house_plan(), &mut [0xEE; 16], &mut [0; 9]), (5, Err(refusal)));
+        assert_eq!(s.count, 6);
+    }
+}
+
+/// No line depends on the counts, and a byte is accepted behind the last one unless the pushed count is full.
+#[test]
+fn counts_in_no_line() {
+    let held = [7, 0x3E, 0x01, 1, 0, 0, 0, 0, 2, 0x3C, 7];
+    for room in [[1, 9, 2], [0, GREATEST, GREATEST], [GREATEST, 9, 2]] {
+        let (mut s, mut store) = near(&held, room);
+        let (mut work, mut out) = ([0; 16], [0; 32]);
+        assert_eq!(s.line(&mut store, &house_plan(), &mut work, &mut out), Ok(Some(15)));
+        assert_eq!(&out[..15], b"H 010100000000\n");
+        assert_eq!(s.line(&mut store, &house_plan(), &mut work, &mut out), Ok(None));
+        let one_more = if room[0] == 0 { Err(Refusal::CountFull) } else { Ok(()) };
+        assert_eq!(s.push(&mut store, &[7]), one_more);
+    }
 }
 
 #[test]
@@ -580,6 +772,6 @@ fn many_at_once() {
     s.push(&mut store, &two[4..]).unwrap();
     assert_eq!(s.all_lines(&mut store, &house_plan(), &mut work, &mut []), (0, Err(Refusal::LineTooLong)));
     assert_eq!(s.count, 4);
-    s.skip(&mut store, 3).unwrap();
+    s.skip(&mut store, 0, 3).unwrap();
     assert_eq!((s.count, store[0], store[1]), (1, 0x3E, 0));
 }

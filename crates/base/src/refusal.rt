@@ -29,6 +29,7 @@ pub enum Refusal {
     NotALine,
     WrongKind,
     WrongLength,
+    CountFull,
 }
 
 impl Refusal {
@@ -69,6 +70,7 @@ impl Refusal {
             Refusal::NotALine => 24,
             Refusal::WrongKind => 25,
             Refusal::WrongLength => 26,
+            Refusal::CountFull => 27,
         }
     }
 }

@@ -116,12 +116,12 @@ fn skip_status(answer: SkipAnswer) -> u8
     }
 }
 
-fn skipped(scanner: Scanner, store: &mut [u8], n: usize) -> Stated
-    ensures { λ r. ⌜ r .status ≡ statusOf (skipCall scanner (now (store .entry)) n .answer) ⌝ }
-    ensures { λ r. ⌜ r .scanner ≡ skipCall scanner (now (store .entry)) n .scanner ⌝ }
-    ensures { λ _. ⌜ now (store .exit) ≡ skipCall scanner (now (store .entry)) n .store ⌝ }
+fn skipped(scanner: Scanner, store: &mut [u8], dropped: usize, handed: usize) -> Stated
+    ensures { λ r. ⌜ r .status ≡ statusOf (skipCall scanner (now (store .entry)) dropped handed .answer) ⌝ }
+    ensures { λ r. ⌜ r .scanner ≡ skipCall scanner (now (store .entry)) dropped handed .scanner ⌝ }
+    ensures { λ _. ⌜ now (store .exit) ≡ skipCall scanner (now (store .entry)) dropped handed .store ⌝ }
 {
-    let s = scanner::skip(scanner, store, n);
+    let s = scanner::skip(scanner, store, dropped, handed);
     let answer = s.answer;
     let next = s.scanner;
     Stated {
@@ -131,12 +131,17 @@ fn skipped(scanner: Scanner, store: &mut [u8], n: usize) -> Stated
 }
 
 #[no_mangle]
-pub extern "C" fn mdr_skip(scanner: &mut Scanner, store: &mut [u8], n: usize) -> u8
-    ensures { λ r. ⌜ r ≡ statusOf (skipCall (now (scanner .entry)) (now (store .entry)) n .answer) ⌝ }
-    ensures { λ _. ⌜ now (scanner .exit) ≡ skipCall (now (scanner .entry)) (now (store .entry)) n .scanner ⌝ }
-    ensures { λ _. ⌜ now (store .exit) ≡ skipCall (now (scanner .entry)) (now (store .entry)) n .store ⌝ }
+pub extern "C" fn mdr_skip(
+    scanner: &mut Scanner,
+    store: &mut [u8],
+    dropped: usize,
+    handed: usize,
+) -> u8
+    ensures { λ r. ⌜ r ≡ statusOf (skipCall (now (scanner .entry)) (now (store .entry)) dropped handed .answer) ⌝ }
+    ensures { λ _. ⌜ now (scanner .exit) ≡ skipCall (now (scanner .entry)) (now (store .entry)) dropped handed .scanner ⌝ }
+    ensures { λ _. ⌜ now (store .exit) ≡ skipCall (now (scanner .entry)) (now (store .entry)) dropped handed .store ⌝ }
 {
-    let p = skipped(*scanner, store, n);
+    let p = skipped(*scanner, store, dropped, handed);
     *scanner = p.scanner;
     p.status
 }

@@ -47,6 +47,7 @@ pub fn rule(r: Refusal) {
         Refusal::NotALine => say(b"not a line of a log"),
         Refusal::WrongKind => say(b"under two bytes, or a kind that it does not read"),
         Refusal::WrongLength => say(b"the bytes run out, are too many or do not match the count"),
+        Refusal::CountFull => say(b"a count of bytes would pass 18446744073709551615"),
     }
 }
 

@@ -88,19 +88,23 @@ fn passed(left: usize, b: u8) -> usize {
     }
 }
 
+// The number with one more digit; a digit that it has no room for is left out.
 fn grown(value: usize, digit: u8) -> usize {
-    if value < 500000000 {
-        value * 10 + (digit % 16) as usize
-    } else {
-        value
+    let d = (digit % 16) as usize;
+    if value > usize::MAX / 10 {
+        return value;
     }
+    if usize::MAX - value * 10 < d {
+        return value;
+    }
+    value * 10 + d
 }
 
 fn is_digit(b: u8) -> bool {
     b >= b'0' && b <= b'9'
 }
 
-// The decimal number in a field.
+// The decimal number in a field, up to 18446744073709551615.
 pub fn number_field(input: &[u8], at: usize, which: usize) -> usize {
     let mut i = field(input, at, which);
     let mut value: usize = 0;

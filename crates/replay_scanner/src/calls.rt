@@ -1,5 +1,6 @@
 // Each call, its answer, and the state and the store after it.
-use crate::lines::State;
+use gathering::LinesAnswer;
+use line_call::LineAnswer;
 use replay::bytes;
 use replay::fill;
 use replay::number;
@@ -9,20 +10,26 @@ use scanner::Found;
 use scanner::OpenAnswer;
 use scanner::PushAnswer;
 use scanner::Scanner;
+use scanner::SkipAnswer;
 use scanner::TakeAnswer;
 
-fn of(state: State) -> Scanner {
-    scanner::holding(scanner::fresh(state.limit), state.count)
+// The scanner, the length of the store that is lent, and the place in the text.
+pub struct State {
+    pub scanner: Scanner,
+    pub lent: usize,
+    pub k: usize,
 }
 
-// The state after a call: the count held and the store end its answer.
+// The state after a call: the count held, the three counts of bytes and the store end its answer.
 fn after(s: Scanner, lent: usize, store: &[u8], text: &mut [u8], k: usize) -> State {
-    let next = number(text, k, s.count as u64);
+    let held = number(text, k, s.count as u64);
+    let pushed = number(text, held, s.pushed);
+    let handed = number(text, pushed, s.handed);
+    let dropped = number(text, handed, s.dropped);
     State {
-        limit: s.limit,
-        count: s.count,
+        scanner: s,
         lent,
-        k: bytes(text, next, store),
+        k: bytes(text, dropped, store),
     }
 }
 
@@ -50,7 +57,7 @@ fn pushed(text: &mut [u8], k: usize, a: PushAnswer) -> usize {
 }
 
 pub fn push_in(state: State, store: &mut [u8], piece: &[u8], text: &mut [u8]) -> State {
-    let p = scanner::push(of(state), store, piece);
+    let p = scanner::push(state.scanner, store, piece);
     let answer = p.answer;
     let scanner = p.scanner;
     let next = pushed(text, state.k, answer);
@@ -83,10 +90,89 @@ fn seen(s: Scanner, store: &[u8], text: &mut [u8], k: usize) -> usize {
 }
 
 pub fn take_in(state: State, store: &mut [u8], text: &mut [u8]) -> State {
-    let sought = seen(of(state), store, text, state.k);
-    let t = scanner::take(of(state), store);
+    let sought = seen(state.scanner, store, text, state.k);
+    let t = scanner::take(state.scanner, store);
     let answer = t.answer;
     let scanner = t.scanner;
     let next = taken(text, sought, answer);
+    after(scanner, state.lent, store, text, next)
+}
+
+fn skipped(text: &mut [u8], k: usize, a: SkipAnswer) -> usize {
+    match a {
+        SkipAnswer::Gone => word(text, k, b"gone"),
+        SkipAnswer::Refused(r) => refusal(text, k, r),
+    }
+}
+
+pub fn skip_in(
+    dropped: usize,
+    handed: usize,
+    state: State,
+    store: &mut [u8],
+    text: &mut [u8],
+) -> State {
+    let s = scanner::skip(state.scanner, store, dropped, handed);
+    let answer = s.answer;
+    let scanner = s.scanner;
+    let next = skipped(text, state.k, answer);
+    after(scanner, state.lent, store, text, next)
+}
+
+fn lined(text: &mut [u8], k: usize, a: LineAnswer) -> usize {
+    match a {
+        LineAnswer::Line(n) => {
+            let next = word(text, k, b"line");
+            number(text, next, n as u64)
+        }
+        LineAnswer::Nothing => word(text, k, b"none"),
+        LineAnswer::Refused(r) => refusal(text, k, r),
+    }
+}
+
+// The work area and the output after a call.
+fn areas(text: &mut [u8], k: usize, work: &[u8], out: &[u8]) -> usize {
+    let next = bytes(text, k, work);
+    bytes(text, next, out)
+}
+
+pub fn line_in(
+    state: State,
+    store: &mut [u8],
+    plan: &[u8],
+    work: &mut [u8],
+    out: &mut [u8],
+    text: &mut [u8],
+) -> State {
+    let l = line_call::line(state.scanner, store, plan, work, out);
+    let answer = l.answer;
+    let scanner = l.scanner;
+    let told = lined(text, state.k, answer);
+    let next = areas(text, told, work, out);
+    after(scanner, state.lent, store, text, next)
+}
+
+fn ended(text: &mut [u8], k: usize, ready: usize, a: LinesAnswer) -> usize {
+    let next = number(text, k, ready as u64);
+    match a {
+        LinesAnswer::NoneLeft => word(text, next, b"none"),
+        LinesAnswer::Refused(r) => refusal(text, next, r),
+    }
+}
+
+pub fn all_lines_in(
+    state: State,
+    store: &mut [u8],
+    plan: &[u8],
+    work: &mut [u8],
+    out: &mut [u8],
+    text: &mut [u8],
+) -> State {
+    let l = gathering::all_lines(state.scanner, store, plan, work, out);
+    let ready = l.ready;
+    let answer = l.answer;
+    let scanner = l.scanner;
+    let told = ended(text, state.k, ready, answer);
+    let next = areas(text, told, work, out);
     after(scanner, state.lent, store, text, next)
 }

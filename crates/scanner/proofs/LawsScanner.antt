@@ -12,8 +12,9 @@ use borrow.Author.Tests.{ltb-false, lt-ltb, le-ltb}
 use Rattle.base.specs.Outcome.{Outcome, accepted, refused, pick}
 use Rattle.held.specs.Going.{letGo}
 use Rattle.held.proofs.LawsGoing.{zeroed-length}
-use Rattle.scanner.specs.Scanner.{fresh, holding, refuses, heldOf, openCall, pushCall, checkedTold}
+use Rattle.scanner.specs.Scanner.{fresh, holding, GREATEST, tooFar, countedOf, refuses, counting, heldOf, openBy, openCall, pushing, pushCall, checkedTold}
 use Rattle.scanner.specs.declared.scanner.Scanner.{Scanner}
+use Rattle.cutting.specs.declared.deciding.Moved.{Moved}
 use Rattle.scanner.specs.declared.scanner.Checked.{Checked}
 use Rattle.scanner.specs.declared.scanner.Checked.the-variants.{Fine}
 
@@ -57,52 +58,117 @@ unfolding heldOf
 admits s store held a =
     rw (le-ltb (s .limit) 9 (a .low), le-ltb 65536 (s .limit) (a .high), le-ltb (length store) (s .limit + 1) (a .room), le-ltb (length store) (s .count) (a .fits), a .first)
 
--- these bytes at the front of a store as long are held
-held-front : (s : Scanner) (store held : List ℕ) → heldOf s store ≡ accepted held → (n : ℕ) (xs rest : List ℕ) → length xs ≡ n → length (xs ++ rest) ≡ length store
-    → heldOf (holding s n) (xs ++ rest) ≡ accepted xs
-held-front s store held e n xs rest f l =
-    let a = admitted s store held e in
-    admits (holding s n) (xs ++ rest) xs (record { low = a .low; high = a .high; room = rw l (a .room); fits = rw length-append (omega arith); first = sym (take-at xs rest n f) })
+-- no count is carried too far
+pub record Fits (s : Scanner) (m : Moved) : Type 0 where
+  pub pushed : s .pushed + m .pushed ≤ GREATEST
+  pub handed : s .handed + m .handed ≤ GREATEST
+  pub dropped : s .dropped + m .dropped ≤ GREATEST
 
--- an opening that is not refused: nothing
+module _ (s : Scanner) (m : Moved) where
+  pub fits-near : Fits s m → tooFar s m ≡ false
+  unfolding tooFar
+  fits-near f = rw (le-ltb GREATEST (s .pushed + m .pushed) (f .pushed), le-ltb GREATEST (s .handed + m .handed) (f .handed), le-ltb GREATEST (s .dropped + m .dropped) (f .dropped))
+
+  pub far-pushed : GREATEST < s .pushed + m .pushed → tooFar s m ≡ true
+  unfolding tooFar
+  far-pushed h = rw (lt-ltb GREATEST (s .pushed + m .pushed) h)
+
+  pub far-handed : GREATEST < s .handed + m .handed → tooFar s m ≡ true
+  unfolding tooFar
+  far-handed h = rw (lt-ltb GREATEST (s .handed + m .handed) h) (go (ltb GREATEST (s .pushed + m .pushed)))
+    where
+      go : (t : Bool) → pick t true true ≡ true
+      go true = refl
+      go false = refl
+
+  pub far-dropped : GREATEST < s .dropped + m .dropped → tooFar s m ≡ true
+  unfolding tooFar
+  far-dropped h = rw (lt-ltb GREATEST (s .dropped + m .dropped) h) (go (ltb GREATEST (s .pushed + m .pushed)) (ltb GREATEST (s .handed + m .handed)))
+    where
+      go : (t u : Bool) → pick t true (pick u true true) ≡ true
+      go true u = refl
+      go false true = refl
+      go false false = refl
+
+  pub near-fits : tooFar s m ≡ false → Fits s m
+  unfolding tooFar
+  near-fits = go (ltb GREATEST (s .pushed + m .pushed)) refl (ltb GREATEST (s .handed + m .handed)) refl (ltb GREATEST (s .dropped + m .dropped)) refl
+    where
+      go : (t : Bool) → ltb GREATEST (s .pushed + m .pushed) ≡ t → (u : Bool) → ltb GREATEST (s .handed + m .handed) ≡ u → (v : Bool) → ltb GREATEST (s .dropped + m .dropped) ≡ v
+          → pick t true (pick u true v) ≡ false → Fits s m
+      go true a u b v c e = let z : _≡_ {A = ℕ} 0 1 = cc in absurd (omega arith)
+      go false a true b v c e = let z : _≡_ {A = ℕ} 0 1 = cc in absurd (omega arith)
+      go false a false b true c e = let z : _≡_ {A = ℕ} 0 1 = cc in absurd (omega arith)
+      go false a false b false c e = record { pushed = ltb-false _ _ a; handed = ltb-false _ _ b; dropped = ltb-false _ _ c }
+
+  pub counts : (n : ℕ) → tooFar s m ≡ false → countedOf s n m ≡ accepted (holding s n m)
+  unfolding countedOf
+  counts n e = rw e
+
+  pub counts-not : (n : ℕ) → tooFar s m ≡ true → countedOf s n m ≡ refused 27 []
+  unfolding countedOf
+  counts-not n e = rw e
+
+-- these bytes at the front of a store as long are held, whatever was counted
+held-front : (s : Scanner) (store held : List ℕ) → heldOf s store ≡ accepted held → (n : ℕ) (m : Moved) (xs rest : List ℕ) → length xs ≡ n → length (xs ++ rest) ≡ length store
+    → heldOf (holding s n m) (xs ++ rest) ≡ accepted xs
+held-front s store held e n m xs rest f l =
+    let a = admitted s store held e in
+    admits (holding s n m) (xs ++ rest) xs (record { low = a .low; high = a .high; room = rw l (a .room); fits = rw length-append (omega arith); first = sym (take-at xs rest n f) })
+
+-- an opening, refused or not, counts nothing
+pub opened-fresh : (limit : ℕ) (store : List ℕ) → openCall limit store .scanner ≡ fresh limit
+unfolding openCall
+opened-fresh limit store = go (heldOf (fresh limit) store)
+  where
+    go : (o : Outcome (List ℕ)) → openBy o limit store .scanner ≡ fresh limit
+    go (refused n vs) = refl
+    go (accepted held) = refl
+
+-- and one that is not refused holds nothing
 pub held-opened : (limit : ℕ) (store held : List ℕ) → heldOf (fresh limit) store ≡ accepted held → heldOf (openCall limit store .scanner) (openCall limit store .store) ≡ accepted []
 unfolding openCall
-held-opened limit store held e = rw e (held-front (fresh limit) store held e 0 [] (replicate (length store) 0) refl (length-replicate (length store) 0))
+held-opened limit store held e = rw e (held-front (fresh limit) store held e 0 (pushing []) [] (replicate (length store) 0) refl (length-replicate (length store) 0))
+
+-- how many stay, in the code's terms
+pub stays : (s : Scanner) (store : List ℕ) (n : ℕ) → s .count ≤ length store → length (drop n (take (s .count) store)) ≡ s .count - n
+stays s store n h = rw (length-drop, length-take-le (s .count) store h)
 
 -- one byte more of a copy
 pub copy-step : (d e : List ℕ) (at : ℕ) (s : List ℕ) (j : ℕ) → at + j < length d → j < length s → e ≡ paste d at s j → set e (at + j) (getD s j 0) ≡ paste d at s (j + 1)
 copy-step d e at s j h k p = rw (p, paste-suc d at s j 0 h k, add-one)
 
--- a push past 1 to 3: 4, or the piece behind the held bytes
+-- a push past 1 to 3: 4, or 27, or the piece behind the held bytes
 module _ (s : Scanner) (store held piece : List ℕ) (e : heldOf s store ≡ accepted held) where
   pub push-full : length store < s .count + length piece → pushCall s store piece ≡ refuses 4 [] s store
   unfolding pushCall
   push-full h = rw (e, lt-ltb (length store) (s .count + length piece) h)
 
   pub push-fits : s .count + length piece ≤ length store
-      → pushCall s store piece ≡ record { answer = accepted tt; scanner = holding s (s .count + length piece); store = held ++ piece ++ drop (s .count + length piece) store }
+      → pushCall s store piece ≡ counting (countedOf s (s .count + length piece) (pushing piece)) tt s store (held ++ piece ++ drop (s .count + length piece) store)
   unfolding pushCall
   push-fits h = rw (e, le-ltb (length store) (s .count + length piece) h)
+
+  -- with room in the store and in the counts it is stored
+  pub push-stored : s .count + length piece ≤ length store → Fits s (pushing piece) → pushCall s store piece .answer ≡ accepted tt
+  push-stored h f = rw (push-fits h, counts s (pushing piece) (s .count + length piece) (fits-near s (pushing piece) f))
 
 module _ (s : Scanner) (store held : List ℕ) (e : heldOf s store ≡ accepted held) where
   pub held-length : length held ≡ s .count
   held-length = let a = admitted s store held e in ap length (a .first) ∙ length-take-le (s .count) store (a .fits)
 
-  -- a push that is not refused: the piece behind the held bytes
+  -- the piece behind the held bytes
   module _ (piece : List ℕ) (h : s .count + length piece ≤ length store) where
-    joined-length : length (held ++ piece ++ drop (s .count + length piece) store) ≡ length store
+    pub joined-length : length (held ++ piece ++ drop (s .count + length piece) store) ≡ length store
     joined-length = simp (length-append, held-length, length-drop) (omega arith)
 
-    pub pushed-length : length (pushCall s store piece .store) ≡ length store
-    pushed-length = rw (push-fits s store held piece e h) joined-length
-
-    pub held-pushed : heldOf (pushCall s store piece .scanner) (pushCall s store piece .store) ≡ accepted (held ++ piece)
-    held-pushed = rw (push-fits s store held piece e h) (held-front s store held e (s .count + length piece) (held ++ piece) (drop (s .count + length piece) store) (rw (length-append, held-length)) joined-length)
+    pub held-joined : (m : Moved) → heldOf (holding s (s .count + length piece) m) (held ++ piece ++ drop (s .count + length piece) store) ≡ accepted (held ++ piece)
+    held-joined m = held-front s store held e (s .count + length piece) m (held ++ piece) (drop (s .count + length piece) store) (rw (length-append, held-length)) joined-length
 
   -- the first n go: what stays
   module _ (n : ℕ) where
     pub gone-length : length (letGo held n store) ≡ length store
     gone-length = zeroed-length (drop n held) (length store) (omega (arith, length-drop n held, held-length, admitted s store held e .fits))
 
-    pub held-gone : heldOf (holding s (length (drop n held))) (letGo held n store) ≡ accepted (drop n held)
-    held-gone = held-front s store held e (length (drop n held)) (drop n held) (replicate (length store - length (drop n held)) 0) refl gone-length
+    pub held-gone : (m : Moved) → heldOf (holding s (length (drop n held)) m) (letGo held n store) ≡ accepted (drop n held)
+    held-gone m = held-front s store held e (length (drop n held)) m (drop n held) (replicate (length store - length (drop n held)) 0) refl gone-length

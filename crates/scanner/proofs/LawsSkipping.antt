@@ -1,35 +1,16 @@
--- What a skip leaves.
-use Prim.Native.Nat.{ℕ, _+_}
-use mathlib.Core.Path.{_≡_, refl}
+-- What a skip counts, and what it leaves.
+use Prim.Native.Nat.{ℕ, _+_, _-_, _≤_, min}
+use mathlib.Core.Path.{_≡_, refl, ap}
 use mathlib.Core.List.{List}
-use lib.ListN.{length, drop}
-use lib.Seq.{drop-drop}
+use native.Mathlib.Omega.{arith}
+use lib.ListN.{length, take, drop, length-take, length-drop}
 use Rattle.base.specs.Outcome.{accepted}
 use Rattle.scanner.specs.Scanner.{heldOf}
-use Rattle.scanner.specs.Taking.{takenOf, takeCall}
-use Rattle.scanner.specs.Skipping.{skipCall}
-use Rattle.scanner.specs.declared.scanner.Scanner.{Scanner}
-use Rattle.scanner.proofs.LawsScanner.{gone-length, held-gone}
+use Rattle.scanner.specs.Skipping.{skipping}
 
-module _ (s : Scanner) (store held : List ℕ) (e : heldOf s store ≡ accepted held) where
-  pub skipped-length : (n : ℕ) → length (skipCall s store n .store) ≡ length store
-  unfolding skipCall
-  skipped-length n = rw e (gone-length s store held e n)
+-- no more than are held, in the code's terms
+pub skip-counts : (held : List ℕ) (dropped handed n : ℕ) → length held ≡ n → let m = skipping held dropped handed in (min dropped n ≡ m .dropped) × (min handed (n - min dropped n) ≡ m .handed)
+skip-counts held dropped handed n e = rw (length-take, length-take, length-drop, e) (refl, omega arith)
 
-  pub held-skipped : (n : ℕ) → heldOf (skipCall s store n .scanner) (skipCall s store n .store) ≡ accepted (drop n held)
-  unfolding skipCall
-  held-skipped n = rw e (held-gone s store held e n)
-
-  pub skip-accepts : (n : ℕ) → skipCall s store n .answer ≡ accepted tt
-  unfolding skipCall
-  skip-accepts n = rw e
-
-  -- two skips are one
-  pub skip-skip : (m n : ℕ) → skipCall (skipCall s store m .scanner) (skipCall s store m .store) n ≡ skipCall s store (m + n)
-  unfolding skipCall
-  skip-skip m n = rw (e, held-gone s store held e m, gone-length s store held e m, drop-drop n m held)
-
-  -- a take is the skip of what it lets go
-  pub take-skips : let n = takenOf (s .limit) held .goes in (takeCall s store .scanner ≡ skipCall s store n .scanner) × (takeCall s store .store ≡ skipCall s store n .store)
-  unfolding takeCall skipCall
-  take-skips = rw e (refl, refl)
+pub skip-within : (held : List ℕ) (dropped handed : ℕ) → let m = skipping held dropped handed in m .dropped + m .handed ≤ length held
+skip-within held dropped handed = simp (length-take, length-drop) (omega arith)

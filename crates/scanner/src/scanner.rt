@@ -1,36 +1,65 @@
 // The state, opening and push.
+use cutting::Moved;
 use frame::Refusal;
 use frame::wipe_from;
 ghost use mathlib.Core.Path.{_≡_};
 ghost use Prim.Native.Nat.{_+_, _≤_};
 ghost use lib.ListN.{length, take};
 ghost use lib.Seq.{paste};
-ghost use Rattle.scanner.specs.Scanner.{fresh, holding, heldOf, openCall, openTold, pushCall, pushTold, checkedTold};
+ghost use Rattle.scanner.specs.Scanner.{fresh, heldOf, countedOf, countedTold, openCall, openTold, pushCall, pushTold, checkedTold};
 
 #[repr(C)]
 pub struct Scanner {
     pub limit: usize,
     pub count: usize,
+    pub pushed: u64,
+    pub handed: u64,
+    pub dropped: u64,
 }
 
-// Nothing held.
+// Nothing held, nothing counted.
 pub fn fresh(limit: usize) -> Scanner
     ensures { λ r. ⌜ r ≡ fresh limit ⌝ }
 {
     Scanner {
         limit: limit,
         count: 0,
+        pushed: 0,
+        handed: 0,
+        dropped: 0,
     }
 }
 
-// Another count held.
-pub fn holding(scanner: Scanner, count: usize) -> Scanner
-    ensures { λ r. ⌜ r ≡ holding scanner count ⌝ }
+pub enum Counted {
+    Next(Scanner),
+    Refused(Refusal),
+}
+
+const GREATEST: u64 = 18446744073709551615;
+
+// The state after a call: so many bytes held, and what the call did counted.
+pub fn advance(scanner: Scanner, count: usize, moved: Moved) -> Counted
+    ensures { λ r. ⌜ countedTold r ≡ countedOf scanner count moved ⌝ }
 {
-    Scanner {
+    let pushed = moved.pushed as u64;
+    let handed = moved.handed as u64;
+    let dropped = moved.dropped as u64;
+    if GREATEST - scanner.pushed < pushed {
+        return Counted::Refused(Refusal::CountFull);
+    }
+    if GREATEST - scanner.handed < handed {
+        return Counted::Refused(Refusal::CountFull);
+    }
+    if GREATEST - scanner.dropped < dropped {
+        return Counted::Refused(Refusal::CountFull);
+    }
+    Counted::Next(Scanner {
         limit: scanner.limit,
         count: count,
-    }
+        pushed: scanner.pushed + pushed,
+        handed: scanner.handed + handed,
+        dropped: scanner.dropped + dropped,
+    })
 }
 
 const LEAST_LIMIT: usize = 9;
@@ -133,10 +162,23 @@ pub fn push(scanner: Scanner, store: &mut [u8], piece: &[u8]) -> Pushed
                     scanner: scanner,
                 };
             }
-            copy_at(store, count, piece);
-            Pushed {
-                answer: PushAnswer::Stored,
-                scanner: holding(scanner, count + piece.len()),
+            let moved = Moved {
+                pushed: piece.len(),
+                handed: 0,
+                dropped: 0,
+            };
+            match advance(scanner, count + piece.len(), moved) {
+                Counted::Refused(r) => Pushed {
+                    answer: PushAnswer::Refused(r),
+                    scanner: scanner,
+                },
+                Counted::Next(next) => {
+                    copy_at(store, count, piece);
+                    Pushed {
+                        answer: PushAnswer::Stored,
+                        scanner: next,
+                    }
+                }
             }
         }
     }

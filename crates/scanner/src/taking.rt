@@ -1,15 +1,18 @@
 // What `next_raw` does to the held bytes.
+use crate::finding::Found;
+use crate::going::go;
 use crate::scanner::Checked;
+use crate::scanner::Counted;
 use crate::scanner::Scanner;
+use crate::scanner::advance;
 use crate::scanner::check;
-use crate::scanner::holding;
+use cutting::Moved;
+use cutting::decide;
 use frame::Refusal;
-use held::Sight;
-use held::let_go;
-use held::seek;
 ghost use mathlib.Core.Path.{_≡_};
 ghost use Rattle.base.specs.Outcome.{accepted};
-ghost use Rattle.scanner.specs.Taking.{takeCall, takeTold, cutOf};
+ghost use Rattle.scanner.specs.Finding.{foundTold};
+ghost use Rattle.scanner.specs.Taking.{takeCall, takeTold, peekCall};
 
 pub enum TakeAnswer {
     Span,
@@ -22,37 +25,34 @@ pub struct Taken {
     pub scanner: Scanner,
 }
 
-// How many held bytes go, and whether a span does.
-struct Cut {
-    goes: usize,
-    span: bool,
-}
-
-fn decide(held: &[u8], limit: usize) -> Cut
-    ensures { λ r. ⌜ r ≡ cutOf limit (now (held .entry)) ⌝ }
+// The next span's place, refused where a take would be.
+pub fn peek(scanner: Scanner, store: &[u8]) -> Found
+    ensures { λ r. ⌜ foundTold r ≡ peekCall scanner (now (store .entry)) ⌝ }
 {
-    match seek(held) {
-        Sight::NoStart => Cut {
-            goes: held.len(),
-            span: false,
-        },
-        Sight::NoEnd(at) => {
-            if limit < held.len() - at {
-                Cut {
-                    goes: held.len(),
-                    span: false,
-                }
-            } else {
-                Cut {
-                    goes: at,
-                    span: false,
+    match check(scanner, store) {
+        Checked::Refused(r) => Found::Refused(r),
+        Checked::Fine => {
+            let count = scanner.count;
+            let c = decide(&store[..count], scanner.limit);
+            let moved = Moved {
+                pushed: 0,
+                handed: c.handed,
+                dropped: c.dropped,
+            };
+            match advance(scanner, count, moved) {
+                Counted::Refused(r) => Found::Refused(r),
+                Counted::Next(_) => {
+                    if c.span {
+                        Found::At {
+                            at: c.dropped,
+                            len: c.handed,
+                        }
+                    } else {
+                        Found::Nothing
+                    }
                 }
             }
         }
-        Sight::Both { at, len } => Cut {
-            goes: at + len,
-            span: true,
-        },
     }
 }
 
@@ -79,10 +79,15 @@ pub fn take(scanner: Scanner, store: &mut [u8]) -> Taken
         Checked::Fine => {
             let count = scanner.count;
             let c = decide(&store[..count], scanner.limit);
-            let kept = let_go(store, count, c.goes);
-            Taken {
-                answer: answered(c.span),
-                scanner: holding(scanner, kept),
+            match go(scanner, store, c.dropped, c.handed) {
+                Counted::Refused(r) => Taken {
+                    answer: TakeAnswer::Refused(r),
+                    scanner: scanner,
+                },
+                Counted::Next(next) => Taken {
+                    answer: answered(c.span),
+                    scanner: next,
+                },
             }
         }
     }

@@ -345,7 +345,7 @@ fn scanner(how: &str, limit: usize, store: usize, bytes: &[u8], piece: usize, ou
 }
 
 fn opened(limit: usize, store: &mut [u8]) -> ours::Scanner {
-    let mut scanner = ours::Scanner { limit: 0, count: 0 };
+    let mut scanner = ours::Scanner::default();
     assert_eq!(ours::open(&mut scanner, limit, store), 0);
     scanner
 }
@@ -377,15 +377,17 @@ fn taken_spans(limit: usize, store: &mut [u8], bytes: &[u8], piece: usize) -> us
 fn skipped_spans(limit: usize, store: &mut [u8], bytes: &[u8], piece: usize) -> usize {
     let mut values = [0; 4];
     let mut spans = 0;
-    let mut past = 0;
+    // of the held bytes that were read
+    let (mut dropped, mut handed) = (0, 0);
     let mut scanner = opened(limit, store);
     for piece in bytes.chunks(piece) {
         if store.len() - scanner.count < piece.len() {
-            ours::skip(&mut scanner, store, past);
-            past = 0;
+            ours::skip(&mut scanner, store, dropped, handed);
+            (dropped, handed) = (0, 0);
         }
         assert_eq!(ours::push(&mut scanner, store, piece), 0);
         loop {
+            let past = dropped + handed;
             ours::seek(&store[past..scanner.count], &mut values);
             let [seen, at, len, _] = values.map(|v| v as usize);
             if seen < 2 {
@@ -393,13 +395,14 @@ fn skipped_spans(limit: usize, store: &mut [u8], bytes: &[u8], piece: usize) -> 
             }
             black_box(&store[past + at..past + at + len]);
             spans += 1;
-            past += at + len;
+            dropped += at;
+            handed += len;
         }
         // only then may take clear anything
-        if scanner.count - past > limit {
-            ours::skip(&mut scanner, store, past);
+        if scanner.count - dropped - handed > limit {
+            ours::skip(&mut scanner, store, dropped, handed);
             ours::take(&mut scanner, store, &mut values);
-            past = 0;
+            (dropped, handed) = (0, 0);
         }
     }
     spans

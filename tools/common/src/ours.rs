@@ -72,8 +72,8 @@ pub fn take(scanner: &mut Scanner, store: &mut [u8], values: &mut [u64]) -> u8 {
     unsafe { sys::mdr_take(scanner, store.as_mut_ptr(), store.len(), values.as_mut_ptr(), values.len()) }
 }
 
-pub fn skip(scanner: &mut Scanner, store: &mut [u8], n: usize) -> u8 {
-    unsafe { sys::mdr_skip(scanner, store.as_mut_ptr(), store.len(), n) }
+pub fn skip(scanner: &mut Scanner, store: &mut [u8], dropped: usize, handed: usize) -> u8 {
+    unsafe { sys::mdr_skip(scanner, store.as_mut_ptr(), store.len(), dropped, handed) }
 }
 
 pub fn seek(bytes: &[u8], values: &mut [u64]) -> u8 {

@@ -1,4 +1,5 @@
-//! Two sessions whose spans have the same public parts: their logs must be the same, whatever else the spans hold and wherever they are cut.
+//! Two sessions whose spans have the same public parts: their logs must be the same, whatever else the spans hold, wherever they are cut and
+//! whatever was counted before.
 use crate::case::{Case, Run, Tally, fewer, fewer_in_frame, hex};
 use crate::inputs::content;
 use crate::lines::span_of;
@@ -86,6 +87,8 @@ struct Way {
     pieces: Vec<usize>,
     /// Whether a call is asked for one line or for all.
     one_by_one: bool,
+    /// The counts that the caller sets after the opening, with room for all that comes.
+    counts: [u64; 3],
 }
 
 #[derive(Clone)]
@@ -128,14 +131,15 @@ impl Alike {
         if self.wide { LARGEST } else { self.longest().saturating_sub(1).max(9) }
     }
 
-    /// The log that ours writes, or what it refuses.
+    /// The log that ours writes, or what is wrong: what it refuses, or what it counts.
     fn log(&self, session: usize) -> Result<Vec<u8>, String> {
         let way = &self.ways[session];
-        let stream: Vec<u8> = self.spans(session).iter().flat_map(|span| [&way.noise[..], span].concat()).collect();
+        let spans = self.spans(session);
+        let stream: Vec<u8> = spans.iter().flat_map(|span| [&way.noise[..], span].concat()).collect();
         let limit = self.limit();
         let len = limit + way.pieces.iter().max().expect("a piece");
         let (mut store, mut work, mut out) = (vec![0xA5; len], vec![0xA5; len], vec![0; 4 * len]);
-        let mut scanner = ours::Scanner { limit: 0, count: 0 };
+        let mut scanner = ours::Scanner::default();
         let call = if way.one_by_one { ours::line } else { ours::all_lines };
         let refused = |what: &str, status: u8| format!("{what} of session {}: refused by {status}", session + 1);
 
@@ -143,6 +147,8 @@ impl Alike {
         if status != 0 {
             return Err(refused("the opening", status));
         }
+        let [pushed, handed, dropped] = way.counts;
+        scanner = ours::Scanner { pushed, handed, dropped, ..scanner };
         let (mut log, mut rest) = (Vec::new(), &stream[..]);
         for &n in way.pieces.iter().cycle() {
             if rest.is_empty() {
@@ -162,6 +168,17 @@ impl Alike {
                     (status, _) => return Err(refused("a line call", status)),
                 }
             }
+        }
+        // The last byte is one of a span, so that nothing is held.
+        let expected = ours::Scanner {
+            limit,
+            count: 0,
+            pushed: pushed + stream.len() as u64,
+            handed: handed + spans.concat().len() as u64,
+            dropped: dropped + (way.noise.len() * spans.len()) as u64,
+        };
+        if scanner != expected {
+            return Err(format!("session {} ends with {scanner:?}, expected {expected:?}", session + 1));
         }
         Ok(log)
     }
@@ -184,7 +201,7 @@ impl Case for Alike {
         }
         // Both being what is expected, they are the same.
         (0..2).find_map(|session| match self.log(session) {
-            Err(refused) => Some(refused),
+            Err(wrong) => Some(wrong),
             Ok(log) => (log != expected).then(|| format!("in session {}, {}", session + 1, line_difference(&expected, &log))),
         })
     }
@@ -214,6 +231,9 @@ impl Case for Alike {
             }
             if !way.one_by_one {
                 with(Way { one_by_one: true, ..way.clone() });
+            }
+            if way.counts != [0; 3] {
+                with(Way { counts: [0; 3], ..way.clone() });
             }
         }
         if !self.wide {
@@ -333,7 +353,7 @@ fn way(c: &mut Choice, longest: usize) -> Way {
     // Held bytes are searched again after each piece, so that a long span does not come in the smallest.
     let most = c.of(&[1, 9, 50, 300, 2_000, LARGEST]).max(longest / 40);
     let pieces = (0..c.between(1, 6)).map(|_| c.between(1, most)).collect();
-    Way { noise, pieces, one_by_one: c.one_in(2) }
+    Way { noise, pieces, one_by_one: c.one_in(2), counts: [0; 3].map(|_| if c.one_in(2) { 0 } else { c.number() / 2 }) }
 }
 
 pub fn random(run: &mut Run, c: &mut Choice) {

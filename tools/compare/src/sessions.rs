@@ -38,18 +38,28 @@ enum Op {
         room: usize,
         fault: Fault,
     },
-    /// The first held bytes go.
-    Skip(usize),
-    /// The caller hands over another state.
-    State {
-        limit: usize,
-        count: usize,
+    /// The first held bytes go, so many of them counted as dropped and so many as handed over.
+    Skip {
+        dropped: usize,
+        handed: usize,
     },
+    /// The caller hands over another state.
+    State(ours::Scanner),
+    /// The caller hands over other counts.
+    Counts(Counts),
     /// The caller writes to the store.
     Store {
         at: usize,
         bytes: Vec<u8>,
     },
+}
+
+/// Bytes pushed, handed over and dropped.
+type Counts = [u64; 3];
+
+/// A count with so much room.
+fn below_greatest(room: usize) -> u64 {
+    u64::MAX - room as u64
 }
 
 #[derive(Clone)]
@@ -62,16 +72,36 @@ pub struct Session {
 }
 
 /// What stands before and behind the state that is lent to ours.
-const AROUND: ours::Scanner = ours::Scanner { limit: usize::MAX / 3, count: usize::MAX / 5 };
+const AROUND: ours::Scanner = ours::Scanner {
+    limit: usize::MAX / 3,
+    count: usize::MAX / 5,
+    pushed: u64::MAX / 7,
+    handed: u64::MAX / 9,
+    dropped: u64::MAX / 11,
+};
+
+/// 27 where so many bytes more are more than a count can be.
+fn passed(count: u64, bytes: usize) -> Option<u8> {
+    (u128::from(count) + bytes as u128 > u128::from(u64::MAX)).then_some(27)
+}
+
+/// What a take comes to: the span and its length, and how many other bytes go, which stand before the span where there is one.
+struct Next {
+    span: Option<Vec<u8>>,
+    handed: usize,
+    dropped: usize,
+}
 
 /// Both sides between two calls.
 struct State<'a> {
     session: &'a Session,
     tally: &'a mut Tally,
-    limit: usize,
-    count: usize,
+    /// What the state should be.
+    now: ours::Scanner,
     /// The middle one is lent to ours.
     states: [ours::Scanner; 3],
+    /// Whether the counts are those of the calls since the opening.
+    lawful: bool,
     /// Lent to ours.
     store: Lent,
     /// What it should hold.
@@ -83,11 +113,11 @@ struct State<'a> {
 impl State<'_> {
     /// Refusals 1 to 3, the lowest first.
     fn refusal(&self) -> Option<u8> {
-        if self.limit < 9 || self.limit > 65_536 {
+        if self.now.limit < 9 || self.now.limit > 65_536 {
             Some(1)
-        } else if self.expected.len() < self.limit + 1 {
+        } else if self.expected.len() < self.now.limit + 1 {
             Some(2)
-        } else if self.expected.len() < self.count {
+        } else if self.expected.len() < self.now.count {
             Some(3)
         } else {
             None
@@ -102,35 +132,57 @@ impl State<'_> {
     }
 
     fn state_difference(&self) -> Option<String> {
-        let expected = ours::Scanner { limit: self.limit, count: self.count };
-        if [self.states[0], self.states[2]] != [AROUND; 2] {
+        let [before, ours, behind] = self.states;
+        if [before, behind] != [AROUND; 2] {
             return Some("ours wrote outside of the state".into());
         }
-        (self.states[1] != expected).then(|| format!("expected: {expected:?}\nours:     {:?}", self.states[1]))
+        if self.lawful {
+            assert_eq!(self.now.pushed, self.now.handed + self.now.dropped + self.now.count as u64);
+        }
+        (ours != self.now).then(|| format!("expected: {:?}\nours:     {ours:?}", self.now))
     }
 
-    /// The Rust's `next_raw`, and what the store holds then: what stays, at the front, and zeros.
-    fn next_raw(&mut self) -> Option<Vec<u8>> {
-        LIMIT.set(self.limit);
-        let span = self.scanner.next_raw();
-        self.count = self.scanner.buf.len();
-        self.expected.fill(0);
-        self.expected[..self.count].copy_from_slice(&self.scanner.buf);
-        span
-    }
-
-    /// Where the span lies that `next_raw` would take.
-    fn next_span(&self) -> Option<(usize, Vec<u8>)> {
+    /// What the Rust's `next_raw` would do.
+    fn next(&self) -> Next {
+        let held = &self.scanner.buf;
         let mut copy = Scanner::new();
-        copy.push(&self.scanner.buf);
-        LIMIT.set(self.limit);
-        let span = copy.next_raw()?;
-        Some((self.count - copy.buf.len() - span.len(), span))
+        copy.push(held);
+        LIMIT.set(self.now.limit);
+        let span = copy.next_raw();
+        let handed = span.as_ref().map_or(0, Vec::len);
+        // All of it where nothing was handed over and nothing stays, else what stands before START.
+        let all = span.is_none() && copy.buf.is_empty();
+        let dropped = if all { held.len() } else { held.iter().position(|&b| b == START).expect("a START") };
+        let (went, stays) = held[dropped..].split_at(handed);
+        assert!(went == span.as_deref().unwrap_or_default() && stays == copy.buf);
+        Next { span, handed, dropped }
     }
 
-    /// The state is this limit and nothing held also where the opening is refused.
+    /// What the store holds once bytes have gone: what stays, at the front, and zeros. They are counted.
+    fn gone(&mut self, dropped: usize, handed: usize) {
+        self.now.dropped += dropped as u64;
+        self.now.handed += handed as u64;
+        self.now.count = self.scanner.buf.len();
+        self.expected.fill(0);
+        self.expected[..self.now.count].copy_from_slice(&self.scanner.buf);
+    }
+
+    /// The Rust's `next_raw`.
+    fn next_raw(&mut self) {
+        let next = self.next();
+        LIMIT.set(self.now.limit);
+        assert_eq!(self.scanner.next_raw(), next.span);
+        self.gone(next.dropped, next.handed);
+    }
+
+    /// Refusal 27: bytes that go pass a count.
+    fn too_many(&self, dropped: usize, handed: usize) -> Option<u8> {
+        passed(self.now.dropped, dropped).or_else(|| passed(self.now.handed, handed))
+    }
+
+    /// The state is this limit with nothing held and nothing counted, also where the opening is refused.
     fn open(&mut self) -> Option<String> {
-        let status = ours::open(&mut self.states[1], self.limit, self.store.lend());
+        let status = ours::open(&mut self.states[1], self.now.limit, self.store.lend());
         let told = match self.refusal() {
             Some(r) => Told::refused(r),
             None => {
@@ -144,13 +196,15 @@ impl State<'_> {
 
     fn push(&mut self, piece: &[u8]) -> Option<String> {
         let status = ours::push(&mut self.states[1], self.store.lend(), piece);
-        let full = || (self.expected.len() - self.count < piece.len()).then_some(4);
-        let told = match self.refusal().or_else(full) {
+        let at = self.now.count;
+        let full = || (self.expected.len() - at < piece.len()).then_some(4);
+        let told = match self.refusal().or_else(full).or_else(|| passed(self.now.pushed, piece.len())) {
             Some(r) => Told::refused(r),
             None => {
                 self.scanner.push(piece);
-                self.expected[self.count..self.count + piece.len()].copy_from_slice(piece);
-                self.count = self.scanner.buffered();
+                self.expected[at..at + piece.len()].copy_from_slice(piece);
+                self.now.count = self.scanner.buffered();
+                self.now.pushed += piece.len() as u64;
                 Told::accepted(&[])
             }
         };
@@ -164,9 +218,9 @@ impl State<'_> {
         let status = ours::find(&self.states[1], self.store.lend(), values.lend());
         let (told, outcome) = match self.refusal() {
             Some(r) => (Told::refused(r), r),
-            None => match self.next_span() {
-                Some((at, span)) => (Told::accepted(&[1, at as u64, span.len() as u64]), 0),
-                None => (Told::accepted(&[0]), b'N'),
+            None => match self.next() {
+                Next { span: Some(_), handed, dropped } => (Told::accepted(&[1, dropped as u64, handed as u64]), 0),
+                _ => (Told::accepted(&[0]), b'N'),
             },
         };
         self.tally.add("find", outcome);
@@ -175,28 +229,29 @@ impl State<'_> {
 
     /// The same search among the held bytes alone.
     fn seek(&mut self) -> Option<String> {
-        let held = self.store.held().get(..self.count)?.to_vec();
+        let held = self.store.held().get(..self.now.count)?.to_vec();
         let mut values = Values::new(self.session.values);
         let status = ours::seek(&held, values.lend());
-        let told = match (self.next_span(), held.iter().position(|&b| b == START)) {
-            (Some((at, span)), _) => Told::accepted(&[2, at as u64, span.len() as u64]),
-            (None, Some(at)) => Told::accepted(&[1, at as u64]),
-            (None, None) => Told::accepted(&[0]),
+        let told = match (self.next(), held.iter().position(|&b| b == START)) {
+            (Next { span: Some(_), handed, dropped }, _) => Told::accepted(&[2, dropped as u64, handed as u64]),
+            (_, Some(at)) => Told::accepted(&[1, at as u64]),
+            (_, None) => Told::accepted(&[0]),
         };
         self.tally.add("seek", if told.numbers[0] == 2 { 0 } else { b'N' });
         told_difference(&told, status, &values)
     }
 
-    /// As many held bytes go, and the rest is left as by a take.
-    fn skip(&mut self, n: usize) -> Option<String> {
-        let status = ours::skip(&mut self.states[1], self.store.lend(), n);
-        let told = match self.refusal() {
+    /// As many held bytes go, those that are dropped first, and the rest is left as by a take.
+    fn skip(&mut self, dropped: usize, handed: usize) -> Option<String> {
+        let status = ours::skip(&mut self.states[1], self.store.lend(), dropped, handed);
+        let held = self.scanner.buf.len();
+        let dropped = dropped.min(held);
+        let handed = handed.min(held - dropped);
+        let told = match self.refusal().or_else(|| self.too_many(dropped, handed)) {
             Some(r) => Told::refused(r),
             None => {
-                self.scanner.buf.drain(..n.min(self.count));
-                self.count = self.scanner.buf.len();
-                self.expected.fill(0);
-                self.expected[..self.count].copy_from_slice(&self.scanner.buf);
+                self.scanner.buf.drain(..dropped + handed);
+                self.gone(dropped, handed);
                 Told::accepted(&[])
             }
         };
@@ -204,27 +259,28 @@ impl State<'_> {
         self.compare(&told, status, &Values::new(0))
     }
 
-    fn take(&mut self) -> Option<String> {
+    /// Whether a span went, or the difference.
+    fn take(&mut self) -> Result<bool, String> {
         let mut values = Values::new(self.session.values);
         let status = ours::take(&mut self.states[1], self.store.lend(), values.lend());
-        let (told, outcome) = match self.refusal() {
+        let next = self.next();
+        let (told, outcome) = match self.refusal().or_else(|| self.too_many(next.dropped, next.handed)) {
             Some(r) => (Told::refused(r), r),
-            None if self.next_raw().is_some() => (Told::accepted(&[1]), 0),
-            None => (Told::accepted(&[0]), b'N'),
+            None => {
+                self.next_raw();
+                if next.span.is_some() { (Told::accepted(&[1]), 0) } else { (Told::accepted(&[0]), b'N') }
+            }
         };
         self.tally.add("take", outcome);
-        self.compare(&told, status, &values)
+        self.compare(&told, status, &values).map_or(Ok(outcome == 0), Err)
     }
 
     fn take_all(&mut self) -> Option<String> {
         loop {
-            let found = match self.find() {
-                Ok(found) => found,
+            match self.find().and_then(|_| self.take()) {
+                Ok(true) => {}
+                Ok(false) => return None,
                 Err(difference) => return Some(difference),
-            };
-            let difference = self.take();
-            if difference.is_some() || !found {
-                return difference;
             }
         }
     }
@@ -240,7 +296,7 @@ impl State<'_> {
         plan
     }
 
-    /// Lines one behind the other, until no span is left or one has no room.
+    /// Lines one behind the other, until no span is left or one is refused.
     fn all_lines(&mut self, work: isize, room: usize, fault: Fault) -> Option<String> {
         let plan = self.plan(fault);
         let mut work = Lent::new(self.expected.len().saturating_add_signed(work));
@@ -254,19 +310,26 @@ impl State<'_> {
         } else {
             let mut lines = Vec::new();
             let last = loop {
-                let Some((_, span)) = self.next_span() else {
-                    self.next_raw();
-                    break 0;
-                };
+                let next = self.next();
+                if let Some(r) = self.too_many(next.dropped, next.handed) {
+                    break r;
+                }
                 let mut line = Vec::new();
-                Log::default().line(&plan, &span, &mut line);
+                if let Some(span) = &next.span {
+                    Log::default().line(&plan, span, &mut line);
+                }
                 if room - lines.len() < line.len() {
                     break 7;
                 }
                 self.next_raw();
+                if line.is_empty() {
+                    break 0;
+                }
                 lines.extend(line);
             };
-            (last, Left::Zero, lines)
+            // A line call that is refused by 27 leaves what it is lent.
+            let untouched = last == 27 && lines.is_empty();
+            (last, if untouched { Left::Untouched } else { Left::Zero }, lines)
         };
         let told = Told { status: last, numbers: vec![lines.len() as u64] };
         self.tally.add("all_lines", last);
@@ -280,11 +343,12 @@ impl State<'_> {
         let plan = self.plan(fault);
         let mut line = Vec::new();
         let refusal = self.refusal();
+        let next = self.next();
         if refusal.is_none()
             && is_plan(&plan)
-            && let Some((_, span)) = self.next_span()
+            && let Some(span) = &next.span
         {
-            Log::default().line(&plan, &span, &mut line);
+            Log::default().line(&plan, span, &mut line);
         }
         let mut work = Lent::new(self.expected.len().saturating_add_signed(work));
         let mut out = Lent::new(line.len().saturating_add_signed(out));
@@ -292,13 +356,14 @@ impl State<'_> {
         let status = ours::line(&mut self.states[1], self.store.lend(), &plan, work.lend(), out.lend(), values.lend());
 
         let early = || if is_plan(&plan) { (work.held().len() < self.expected.len()).then_some(6) } else { Some(5) };
-        let (told, outcome, work_left, out_left) = if let Some(r) = refusal.or_else(early) {
+        let full = || self.too_many(next.dropped, next.handed);
+        let (told, outcome, work_left, out_left) = if let Some(r) = refusal.or_else(early).or_else(full) {
             (Told::refused(r), r, Left::Untouched, Left::Untouched)
         } else if out.held().len() < line.len() {
             (Told::refused(7), 7, Left::Zero, Left::Untouched)
         } else {
-            let span = self.next_raw();
-            assert_eq!(span.is_some(), !line.is_empty());
+            self.next_raw();
+            assert_eq!(next.span.is_some(), !line.is_empty());
             let letter = line.first().map_or(b'N', |&letter| letter);
             (Told::accepted(&[line.len() as u64]), letter, Left::Zero, Left::Front(line))
         };
@@ -320,25 +385,31 @@ impl State<'_> {
         }
     }
 
-    fn set(&mut self, limit: usize, count: usize) {
-        (self.limit, self.count) = (limit, count);
-        self.states[1] = ours::Scanner { limit, count };
+    fn set(&mut self, state: ours::Scanner) {
+        self.now = state;
+        self.states[1] = state;
         self.scanner = Scanner::new();
-        self.scanner.push(self.expected.get(..count).unwrap_or(&[]));
+        self.scanner.push(self.expected.get(..state.count).unwrap_or(&[]));
     }
 
     fn step(&mut self, op: &Op) -> Option<String> {
         match op {
             Op::Push(piece) => self.push(piece),
             Op::Find => self.find().err(),
-            Op::Take => self.take(),
+            Op::Take => self.take().err(),
             Op::TakeAll => self.take_all(),
             Op::Line { work, out, fault } => self.line(*work, *out, *fault).err(),
             Op::LineAll => self.line_all(),
             Op::AllLines { work, room, fault } => self.all_lines(*work, *room, *fault),
-            Op::Skip(n) => self.skip(*n),
-            Op::State { limit, count } => {
-                self.set(*limit, *count);
+            Op::Skip { dropped, handed } => self.skip(*dropped, *handed),
+            Op::State(state) => {
+                self.set(*state);
+                self.lawful = false;
+                None
+            }
+            Op::Counts([pushed, handed, dropped]) => {
+                self.set(ours::Scanner { pushed: *pushed, handed: *handed, dropped: *dropped, ..self.now });
+                self.lawful = false;
                 None
             }
             Op::Store { at, bytes } => {
@@ -346,7 +417,7 @@ impl State<'_> {
                 let n = bytes.len().min(self.expected.len() - at);
                 self.expected[at..at + n].copy_from_slice(&bytes[..n]);
                 self.store.lend()[at..at + n].copy_from_slice(&bytes[..n]);
-                self.set(self.limit, self.count);
+                self.set(self.now);
                 None
             }
         }
@@ -360,9 +431,9 @@ impl Case for Session {
         let mut state = State {
             session: self,
             tally,
-            limit: self.limit,
-            count: 0,
+            now: ours::Scanner { limit: self.limit, ..Default::default() },
             states: [AROUND; 3],
+            lawful: true,
             store,
             expected,
             scanner: Scanner::new(),
@@ -483,20 +554,25 @@ pub fn exhaustive(run: &mut Run) {
     for limit in [0, 8, 9, 10, 64, 65_536, 65_537, usize::MAX] {
         for store in [0usize, 1, 8, 9, 10, 11, 64, 65, 66, 65_536, 65_537] {
             for count in [0, 1, store.saturating_sub(1), store, store + 1, usize::MAX] {
-                let ops = vec![
-                    Op::State { limit, count },
-                    Op::Push(vec![START]),
-                    Op::Push(vec![]),
-                    Op::Find,
-                    LINE,
-                    Op::AllLines { work: 0, room: 9, fault: Fault::None },
-                    Op::Skip(1),
-                    Op::Take,
-                ];
-                run.case(&Session::of(limit, store, ops));
+                // A lower refusal comes before 27.
+                for full in [0, u64::MAX] {
+                    let ops = vec![
+                        Op::State(ours::Scanner { limit, count, pushed: full, handed: full, dropped: full }),
+                        Op::Push(vec![START]),
+                        Op::Push(vec![]),
+                        Op::Push(vec![START; 12]),
+                        Op::Find,
+                        LINE,
+                        Op::AllLines { work: 0, room: 9, fault: Fault::None },
+                        Op::Skip { dropped: 1, handed: 0 },
+                        Op::Take,
+                    ];
+                    run.case(&Session::of(limit, store, ops));
+                }
             }
         }
     }
+    full_counts(run);
     // Every room of the output and of the work area round a line's needs.
     for (data_type, command, entry) in HOUSE {
         let frame = framed(data_type, 1, &accepted(&mut Choice::new(4), entry, command));
@@ -504,6 +580,55 @@ pub fn exhaustive(run: &mut Run) {
             for work in [0, 1, -1] {
                 let ops = vec![Op::Push(frame.clone()), Op::Line { work, out, fault: Fault::None }, Op::LineAll];
                 run.case(&Session::of(4_096, 4_100, ops));
+            }
+        }
+    }
+}
+
+/// Counts with every room from none to more than a call needs.
+fn full_counts(run: &mut Run) {
+    const NONE: u64 = u64::MAX;
+    for n in 0..=12 {
+        for room in 0..=13 {
+            let pushed = below_greatest(room);
+            for counts in [[pushed, 0, 0], [pushed, NONE, NONE]] {
+                let ops = vec![Op::Counts(counts), Op::Push(vec![START; n]), Op::Push(vec![]), Op::Push(vec![END]), Op::Take];
+                run.case(&Session::of(9, 12, ops));
+            }
+        }
+    }
+    let mut streams: Vec<Vec<u8>> = (0..=5).flat_map(|n| strings(&[START, END, 0], n)).collect();
+    // The limit reached and passed; three spans; a tail that stays.
+    for noise in [0, 2] {
+        streams.extend([8, 9, 10].map(|n| [vec![0; noise], vec![START], vec![0; n - 1]].concat()));
+    }
+    streams.push(vec![START, END, START, 0, END, 0, START, END, 0, 0]);
+    streams.push(vec![0, START, END, 0, START, END, 0, START, END, 0, START]);
+    for stream in streams {
+        for handed in 0..=stream.len().min(8) {
+            for dropped in 0..=stream.len() + 1 {
+                let counts = [NONE, below_greatest(handed), below_greatest(dropped)];
+                let begin = [Op::Push(stream.clone()), Op::Counts(counts)];
+                let line = |work, out| Op::Line { work, out, fault: Fault::None };
+                let all = |work, room, fault| Op::AllLines { work, room, fault };
+                for calls in [
+                    vec![Op::TakeAll],
+                    // Work areas and outputs that are too short, and then long enough.
+                    vec![line(-1, 0), line(0, -1), Op::LineAll],
+                    vec![all(-1, 9, Fault::None), all(0, 9, Fault::None)],
+                    vec![all(0, 20, Fault::Short), all(1, 20, Fault::None)],
+                ] {
+                    run.case(&Session::of(9, 12, [&begin[..], &calls].concat()));
+                }
+            }
+        }
+    }
+    for held in 0..=4 {
+        for [dropped, handed] in [0, 1, 2, 4, 5, usize::MAX].map(|d| [0, 1, 3, 4, 5, usize::MAX].map(|h| [d, h])).concat() {
+            for room in strings(&[0, 1, 2, 3, 4, 5], 2) {
+                let counts = [NONE, below_greatest(room[0].into()), below_greatest(room[1].into())];
+                let ops = vec![Op::Push(vec![0; held]), Op::Counts(counts), Op::Skip { dropped, handed }];
+                run.case(&Session::of(9, 12, ops));
             }
         }
     }
@@ -566,8 +691,32 @@ fn fault(c: &mut Choice) -> Fault {
     }
 }
 
+/// Counts that no session leads to: each by itself full, with little room, or anything. Every other time all are 0, since a full one stops a
+/// session.
+fn counts(c: &mut Choice) -> Counts {
+    if c.one_in(2) {
+        return [0; 3];
+    }
+    [0; 3].map(|_| match c.below(8) {
+        0 => u64::MAX,
+        1 => below_greatest(c.below(12)),
+        2 | 3 => below_greatest(c.below(400)),
+        4 => c.number(),
+        _ => 0,
+    })
+}
+
+/// How many bytes a caller says went: some of what is held, or far more.
+fn skipped(c: &mut Choice, store: usize) -> usize {
+    match c.below(6) {
+        0 => c.of(&[usize::MAX, usize::MAX - 1, usize::MAX / 2 + 1, 1 << 32]),
+        1 | 2 => c.below(8),
+        _ => c.below(store + 2),
+    }
+}
+
 /// What the caller does after a push.
-fn next_op(c: &mut Choice, limit: usize, store: usize) -> Option<Op> {
+fn next_op(c: &mut Choice, limit: usize, store: usize, other_counts: bool) -> Option<Op> {
     match c.below(40) {
         0..3 => Some(Op::Take),
         3..6 => Some(Op::Find),
@@ -577,11 +726,13 @@ fn next_op(c: &mut Choice, limit: usize, store: usize) -> Option<Op> {
         17..24 => Some(Op::LineAll),
         24..30 => Some(Op::AllLines { work: 0, room: c.of(&[0, 4, 30, 100, 1_000, 100_000]) + c.below(12), fault: Fault::None }),
         30 => Some(Op::AllLines { work: room(c), room: c.below(400), fault: fault(c) }),
-        31 => Some(Op::Skip(c.below(store + 2))),
+        31 => Some(Op::Skip { dropped: skipped(c, store), handed: skipped(c, store) }),
         32 => {
             let other = if c.one_in(2) { limit } else { c.between(8, store.max(8)) };
-            Some(Op::State { limit: other, count: c.below(store + 2) })
+            let [pushed, handed, dropped] = if other_counts { counts(c) } else { [0; 3] };
+            Some(Op::State(ours::Scanner { limit: other, count: c.below(store + 2), pushed, handed, dropped }))
         }
+        34..38 if other_counts => Some(Op::Counts(counts(c))),
         33 => {
             let n = c.below(30);
             Some(Op::Store { at: c.below(store + 1), bytes: content(c, n) })
@@ -611,11 +762,12 @@ pub fn random(run: &mut Run, c: &mut Choice) {
     let mut ops = Vec::new();
     let mut rest = &stream[..];
     let most = c.of(&[1, 20, 50, 100, 200, 300, 500, 1_000, 2_000, 5_000]).min(store.max(1));
+    let other_counts = c.one_in(4);
     while !rest.is_empty() && ops.len() < 100 {
         let n = c.between(1, most.min(rest.len()));
         ops.push(Op::Push(rest[..n].to_vec()));
         rest = &rest[n..];
-        ops.extend(next_op(c, limit, store));
+        ops.extend(next_op(c, limit, store, other_counts));
     }
     ops.push(Op::LineAll);
     ops.push(Op::Take);

@@ -1,4 +1,4 @@
-//! Prints the case lists of the replay programs, and the answers that the Rust original gives.
+//! Prints the case lists of the replay programs, of `inlog` and of `tally`, and the answers that the Rust original gives.
 mod again;
 mod causes;
 mod frames;
@@ -7,6 +7,7 @@ mod lines;
 mod logs;
 mod payloads;
 mod scanners;
+mod tally;
 mod text;
 
 use std::io::Write;
@@ -21,6 +22,7 @@ fn main() {
         Some("lines") => bytes(lines::list()),
         Some("again") => again::list(),
         Some("inlog") => inlog::list(),
+        Some("tally") => tally::list(),
         _ => usage(),
     };
     let printed = match words.get(1).map(String::as_str) {
@@ -36,6 +38,6 @@ fn bytes(list: text::List) -> (Vec<u8>, Vec<u8>) {
 }
 
 fn usage() -> ! {
-    eprintln!("usage: oracle frame|scanner|payload|log|lines|again|inlog cases|answers");
+    eprintln!("usage: oracle frame|scanner|payload|log|lines|again|inlog|tally cases|answers");
     std::process::exit(2)
 }

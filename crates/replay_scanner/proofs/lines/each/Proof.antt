@@ -7,10 +7,10 @@ use Rattle.replay_scanner.proofs.lines.each.Statement.{statement}
 use Rattle.replay_scanner.proofs.lines.each.Tie as tie
 
 abbrev Inv-loop : tie.InvT-loop
-Inv-loop input store₀ piece₀ text₀ at₀ state₀ store piece text at state = (length store ≡ length store₀) × ((length piece ≡ length piece₀) × (length text ≡ length text₀))
+Inv-loop input plan store₀ piece₀ work₀ text₀ at₀ state₀ store piece work text at state = (length store ≡ length store₀) × (length piece ≡ length piece₀) × (length work ≡ length work₀) × (length text ≡ length text₀)
 
 abbrev μ-loop : tie.MeasureT-loop
-μ-loop input store₀ piece₀ text₀ at₀ state₀ store piece text at state = length input - at
+μ-loop input plan store₀ piece₀ work₀ text₀ at₀ state₀ store piece work text at state = length input - at
 
 loop-less : tie.Need-loop-less Inv-loop μ-loop
 loop-less c = omega (arith, c .next-line .ensures (search needs))
@@ -21,6 +21,7 @@ each-spec =
     (tie.spec
     Inv-loop
     μ-loop
+    (λ c κs. search needs)
     (λ c. search needs)
     (λ c κs. search needs)
     (λ c κs. search needs)
@@ -29,6 +30,7 @@ each-spec =
     loop-less
     (λ c. search needs)
     (λ c κs. search needs)
+    (λ c. search needs)
     (λ c. search needs)
     (λ c. search needs)
     (λ c. search needs)

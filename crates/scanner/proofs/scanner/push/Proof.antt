@@ -23,17 +23,26 @@ returns c =
 
 copy-at-requires : tie.Need-copy-at-requires
 copy-at-requires c κs =
-    let k = c .before .before .before .before in
+    let k = c .before .before .before .before .before .before .before .before in
     let d = k .before .before .before .before .args in
-    omega (arith, fine (d .scanner) (d .store .now) _ _ (k .check .ensures) (c .before .before .enum-told .given .1) .fits)
+    omega (arith, fine (d .scanner) (d .store .now) _ _ (k .check .ensures) (c .before .before .before .before .before .before .enum-told .given .1) .fits)
 
 returns-3 : tie.Need-returns-3
 returns-3 c =
-    let k = c .before .before .before .before .before .before .before .before in
+    let k = c .before .before .before .before .before .before .before in
     let d = k .before .before .before .before .args in
-    let e = passed (d .scanner) (d .store .now) _ _ (k .check .ensures) (c .before .before .before .before .before .before .enum-told .given .1) in
+    let e = passed (d .scanner) (d .store .now) _ _ (k .check .ensures) (c .before .before .before .before .before .enum-told .given .1) in
     let f = admitted (d .scanner) (d .store .now) _ e .fits in
-    rw (push-fits (d .scanner) (d .store .now) _ (d .piece .now) e (omega arith)) (refl, (c .holding .ensures, rw take-length at (c .before .before .before .copy-at .ensures)))
+    rw (push-fits (d .scanner) (d .store .now) _ (d .piece .now) e (omega arith), ← c .before .before .before .advance .ensures, c .before .r2 .given .1) (refl, (refl, refl))
+
+returns-4 : tie.Need-returns-4
+returns-4 c =
+    let k = c .before .before .before .before .before .before .before .before .before .before .before in
+    let d = k .before .before .before .before .args in
+    let e = passed (d .scanner) (d .store .now) _ _ (k .check .ensures) (c .before .before .before .before .before .before .before .before .before .enum-told .given .1) in
+    let f = admitted (d .scanner) (d .store .now) _ e .fits in
+    rw (push-fits (d .scanner) (d .store .now) _ (d .piece .now) e (omega arith), ← c .before .before .before .before .before .before .before .advance .ensures, c .before .before .before .before .before .next .given .1)
+    (refl, (refl, rw take-length at (c .before .before .copy-at .ensures)))
 
 pub push-spec : {M : Type 1} → statement M
 unfolding pushCall
@@ -46,10 +55,14 @@ push-spec =
     sub-if1
     (λ c. search needs)
     returns
-    copy-at-requires
     (λ c. search needs)
     (λ c κs. search needs)
     (λ c. search needs)
+    (λ c. search needs)
+    copy-at-requires
+    (λ c. search needs)
     (λ c. simp (← c .before .before .before .check .ensures, c .before .r .given .1) (refl, (refl, refl)))
     (λ c. search needs)
-    returns-3)
+    returns-3
+    (λ c. search needs)
+    returns-4)

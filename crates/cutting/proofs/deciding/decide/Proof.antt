@@ -1,18 +1,12 @@
-use native.Mathlib.Omega.{arith}
 use borrow.Author.Needs.{needs}
 use borrow.Author.Tests.{lt-ltb, le-ltb}
 use Rattle.held.proofs.LawsSearch.{sight-within}
-use Rattle.scanner.proofs.LawsTaking.{cut-sight}
-use Rattle.scanner.proofs.taking.decide.Statement.{statement}
-use Rattle.scanner.proofs.taking.decide.Tie as tie
+use Rattle.cutting.proofs.LawsCutting.{cut-sight}
+use Rattle.cutting.proofs.deciding.decide.Statement.{statement}
+use Rattle.cutting.proofs.deciding.decide.Tie as tie
 
 sub-if1 : tie.Need-sub-if1
 sub-if1 c = rw (← c .before .before .before .seek .ensures, c .before .at .given .1) at (sight-within (c .before .before .before .before .before .args .held .now))
-
-add-t14 : tie.Need-add-t14
-add-t14 c =
-    let h = rw (← c .before .before .before .seek .ensures, c .before .at2 .given .1) at (sight-within (c .before .before .before .before .before .args .held .now)) in
-    omega arith
 
 returns : tie.Need-returns
 returns c = rw (← cut-sight (c .before .before .before .before .args .limit) (c .before .before .before .before .args .held .now), ← c .before .before .seek .ensures, c .enum-told .given .1)
@@ -44,7 +38,6 @@ decide-spec =
     (λ c. search needs)
     sub-if1
     (λ c. search needs)
-    add-t14
     returns
     returns-2
     returns-3
