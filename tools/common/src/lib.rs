@@ -2,6 +2,7 @@
 //! over the Rust original. Nothing here calls the proved library.
 pub mod causes;
 pub mod choice;
+pub mod counts;
 pub mod frames;
 pub mod lines;
 pub mod log;

@@ -150,11 +150,7 @@ impl State<'_> {
         LIMIT.set(self.now.limit);
         let span = copy.next_raw();
         let handed = span.as_ref().map_or(0, Vec::len);
-        // All of it where nothing was handed over and nothing stays, else what stands before START.
-        let all = span.is_none() && copy.buf.is_empty();
-        let dropped = if all { held.len() } else { held.iter().position(|&b| b == START).expect("a START") };
-        let (went, stays) = held[dropped..].split_at(handed);
-        assert!(went == span.as_deref().unwrap_or_default() && stays == copy.buf);
+        let dropped = common::counts::dropped(held, span.as_deref(), &copy.buf);
         Next { span, handed, dropped }
     }
 

@@ -1,5 +1,6 @@
 //! Cases for `scanner`: the Rust's `Scanner` with `MAX_BUFFER` set to the limit, and lines of its spans under the house plan.
 use crate::text::{Choice, List, field, lent, over, shown};
+use common::counts;
 use common::frames::{END, HOUSE, START, framed, house_plan};
 use common::log::Log;
 use original::mdr::{frame, frame_any};
@@ -168,13 +169,8 @@ impl Session {
     fn next(&self) -> (Taken, Counts) {
         let before = &self.store[..self.count];
         let (span, held) = rust(self.limit, before, None);
-        // All that stays is the end of what was held.
-        assert!(before.ends_with(&held));
         let len = span.as_ref().map_or(0, Vec::len);
-        let dropped = before.len() - held.len() - len;
-        if let Some(span) = &span {
-            assert_eq!(&before[dropped..dropped + len], &span[..]);
-        }
+        let dropped = counts::dropped(before, span.as_deref(), &held);
         (Taken { span, dropped, held }, [0, len as u64, dropped as u64])
     }
 

@@ -1,6 +1,7 @@
 //! A capture for `tally`, and where its bytes went: the Rust's scanner, and counts of what it did.
 use crate::text::rule;
 use common::choice::Choice;
+use common::counts;
 use common::frames::{END, HOUSE, START, accepted, framed};
 use common::streams::{KINDS, stream};
 use original::mdr::frame_8192::{MAX_BUFFER, Scanner};
@@ -25,13 +26,13 @@ fn counted(capture: &[u8]) -> [usize; 4] {
         scanner.push(piece);
         pushed += piece.len();
         loop {
-            let before = scanner.buffered();
+            let before = scanner.buf.clone();
             let span = scanner.next_raw();
             let len = span.as_ref().map_or(0, Vec::len);
-            let went = before - scanner.buffered() - len;
+            let went = counts::dropped(&before, span.as_deref(), &scanner.buf);
             spans += len;
             dropped += went;
-            most_held = most_held.max(before);
+            most_held = most_held.max(before.len());
             longest_kept += usize::from(len == MAX_BUFFER + 1);
             if span.is_none() {
                 cleared += usize::from(went > MAX_BUFFER);
