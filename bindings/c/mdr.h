@@ -45,11 +45,12 @@ enum mdr_refusal {
     MDR_TOO_FEW_RECORDS = 20,
     MDR_NO_SUCH_DEVICE = 21,
     MDR_STEP_ZERO = 22,
-    MDR_NOT_TEXT = 23,     /* a setting's name or summary is not UTF-8 */
-    MDR_NOT_A_LINE = 24,   /* none of the four forms of a log's line */
-    MDR_WRONG_KIND = 25,   /* a payload of fewer than 2 bytes, or of a kind that the decoder does not serve */
-    MDR_WRONG_LENGTH = 26, /* a served kind whose bytes run out, are too many, or do not match a count */
-    MDR_COUNT_FULL = 27    /* a count of the scanner's would pass 18446744073709551615 */
+    MDR_NOT_TEXT = 23,         /* a setting's name or summary is not UTF-8 */
+    MDR_NOT_A_LINE = 24,       /* none of the four forms of a log's line */
+    MDR_WRONG_KIND = 25,       /* a payload of fewer than 2 bytes, or of a kind that the decoder does not serve */
+    MDR_WRONG_LENGTH = 26,     /* a served kind whose bytes run out, are too many, or do not match a count */
+    MDR_COUNT_FULL = 27,       /* a count of the scanner's would pass 18446744073709551615 */
+    MDR_BILL_OUT_OF_RANGE = 28 /* a tax above 1000, or a line count above 4294967295 */
 };
 
 /* ---- frames ---- */
@@ -255,6 +256,23 @@ uint8_t mdr_all_lines(struct mdr_scanner *scanner, uint8_t *store, size_t store_
  * mdr_unpack accepts and that mdr_pack makes again. No plan is asked. Then by 18 where the payload does not fit `out`: half of the line's
  * length is enough. Refused, `out` stays. */
 uint8_t mdr_read_line(const uint8_t *line, size_t line_len, uint8_t *out, size_t out_len, uint64_t *values, size_t values_len);
+
+/* ---- the bill ----
+ *
+ * An 'F' line costs four cents, an 'S' line two, 'H' and 'R' lines nothing. The tax is per thousand, from 0 to 1000. */
+
+/* [net, total] in cents, of so many 'F', 'S', 'H' and 'R' lines: `full`, `masked`, `header`, `unread`. The total is the net times
+ * 1000 + tax, plus 500, divided by 1000 and cut to a whole cent. Refused by 28 where the tax is above 1000 or a count above 4294967295. */
+uint8_t mdr_bill(uint64_t full, uint64_t masked, uint64_t header, uint64_t unread, uint64_t tax, uint64_t *values, size_t values_len);
+
+/* [net, total] of a log's text: what mdr_bill tells of what mdr_count_text counts. Refused by 24 as mdr_count_text is, then by 28 as
+ * mdr_bill is. */
+uint8_t mdr_bill_text(const uint8_t *text, size_t text_len, uint64_t tax, uint64_t *values, size_t values_len);
+
+/* [full, masked, header, unread]: how many 'F', 'S', 'H' and 'R' lines a log's text has. A line goes up to its newline, which is included;
+ * bytes behind the last newline are a line without its end. An empty text has [0, 0, 0, 0]. Refused by 24 where mdr_read_line refuses a line
+ * by 24. Of a log in pieces, each cut behind a newline, the counts add up. */
+uint8_t mdr_count_text(const uint8_t *text, size_t text_len, uint64_t *values, size_t values_len);
 
 #ifdef __cplusplus
 }

@@ -39,6 +39,8 @@ pub enum Refusal {
     WrongLength,
     /// a call that would carry a count of the scanner above `u64::MAX`
     CountFull,
+    /// a tax above 1000, or a line count above 4294967295
+    BillOutOfRange,
     /// a status of a later library, which this crate has no name for
     Unlisted(u8),
 }
@@ -75,6 +77,7 @@ impl Refusal {
             25 => Refusal::WrongKind,
             26 => Refusal::WrongLength,
             27 => Refusal::CountFull,
+            28 => Refusal::BillOutOfRange,
             other => Refusal::Unlisted(other),
         }
     }
@@ -109,6 +112,7 @@ impl Refusal {
             Refusal::WrongKind => 25,
             Refusal::WrongLength => 26,
             Refusal::CountFull => 27,
+            Refusal::BillOutOfRange => 28,
             Refusal::Unlisted(number) => number,
         }
     }
@@ -148,6 +152,7 @@ impl std::fmt::Display for Refusal {
             Refusal::WrongKind => write!(f, "the payload has fewer than 2 bytes, or a kind that this decoder does not serve"),
             Refusal::WrongLength => write!(f, "the payload is shorter or longer than its kind and its counts say"),
             Refusal::CountFull => write!(f, "a count of bytes would pass 18446744073709551615"),
+            Refusal::BillOutOfRange => write!(f, "the tax is above 1000, or a line count above 4294967295"),
             Refusal::Unlisted(number) => write!(f, "refused by {number}, for which there is no name here"),
         }
     }
@@ -449,6 +454,56 @@ pub fn read_line<'a>(line: &[u8], out: &'a mut [u8]) -> Result<LineRead<'a>, Ref
         b'S' => LineRead::Masked(unpacked(out)),
         _ => LineRead::Full(unpacked(out)),
     })
+}
+
+/// How many lines of each letter a log has.
+#[derive(Clone, Copy, Debug, Default, PartialEq, Eq)]
+pub struct LineCounts {
+    /// `F`
+    pub full: u64,
+    /// `S`
+    pub masked: u64,
+    /// `H`
+    pub header: u64,
+    /// `R`
+    pub unread: u64,
+}
+
+/// For a log that comes in pieces of whole lines. A count stays at `u64::MAX`, which `bill` refuses.
+impl std::ops::AddAssign for LineCounts {
+    fn add_assign(&mut self, more: LineCounts) {
+        self.full = self.full.saturating_add(more.full);
+        self.masked = self.masked.saturating_add(more.masked);
+        self.header = self.header.saturating_add(more.header);
+        self.unread = self.unread.saturating_add(more.unread);
+    }
+}
+
+/// Counts the lines of a log's text, each up to its newline; bytes behind the last newline are a line without its end. Refused by `NotALine`
+/// where `read_line` refuses a line so.
+pub fn count_text(text: &[u8]) -> Result<LineCounts, Refusal> {
+    let v: [u64; 4] = told(|v, n| unsafe { sys::mdr_count_text(text.as_ptr(), text.len(), v, n) })?;
+    Ok(LineCounts { full: v[0], masked: v[1], header: v[2], unread: v[3] })
+}
+
+/// In cents.
+#[derive(Clone, Copy, Debug, PartialEq, Eq)]
+pub struct Bill {
+    pub net: u64,
+    pub total: u64,
+}
+
+/// Four cents for an `F` line, two for an `S` line, nothing for `H` and `R`; the tax is per thousand. Refused by `BillOutOfRange`.
+pub fn bill(counts: &LineCounts, tax: u64) -> Result<Bill, Refusal> {
+    let LineCounts { full, masked, header, unread } = *counts;
+    let v: [u64; 2] = told(|v, n| unsafe { sys::mdr_bill(full, masked, header, unread, tax, v, n) })?;
+    Ok(Bill { net: v[0], total: v[1] })
+}
+
+/// The bill of what `count_text` counts. Refused by `NotALine` as it is, then by `BillOutOfRange`.
+pub fn bill_text(text: &[u8], tax: u64) -> Result<Bill, Refusal> {
+    let v: [u64; 2] = told(|v, n| unsafe { sys::mdr_bill_text(text.as_ptr(), text.len(), tax, v, n) })?;
+    Ok(Bill { net: v[0], total: v[1] })
 }
 
 #[derive(Clone, Copy, Debug, PartialEq, Eq)]

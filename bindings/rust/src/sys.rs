@@ -104,4 +104,8 @@ unsafe extern "C" {
         values_len: usize,
     ) -> u8;
     pub fn mdr_read_line(line: *const u8, line_len: usize, out: *mut u8, out_len: usize, values: *mut u64, values_len: usize) -> u8;
+
+    pub fn mdr_bill(full: u64, masked: u64, header: u64, unread: u64, tax: u64, values: *mut u64, values_len: usize) -> u8;
+    pub fn mdr_bill_text(text: *const u8, text_len: usize, tax: u64, values: *mut u64, values_len: usize) -> u8;
+    pub fn mdr_count_text(text: *const u8, text_len: usize, values: *mut u64, values_len: usize) -> u8;
 }

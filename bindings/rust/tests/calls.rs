@@ -92,8 +92,10 @@ fn refusals() {
     assert_eq!(battery(&[0x23, 0x00]).unwrap_err().to_string(), length);
     assert_eq!(Refusal::CountFull.number(), 27);
     assert_eq!(Refusal::CountFull.to_string(), "a count of bytes would pass 18446744073709551615");
-    assert_eq!(Refusal::Unlisted(28).number(), 28);
-    assert_eq!(Refusal::Unlisted(28).to_string(), "refused by 28, for which there is no name here");
+    assert_eq!(Refusal::BillOutOfRange.number(), 28);
+    assert_eq!(Refusal::BillOutOfRange.to_string(), "the tax is above 1000, or a line count above 4294967295");
+    assert_eq!(Refusal::Unlisted(29).number(), 29);
+    assert_eq!(Refusal::Unlisted(29).to_string(), "refused by 29, for which there is no name here");
 }
 
 #[test]
@@ -426,6 +428,85 @@ fn lines_not_read() {
     assert_eq!(out, [0xEE; 32]);
 }
 
+/// A line of each letter, the `S` line also as it was written before.
+const LOG: &[u8] = b"\
+F 3E0C000000000423005001843C
+R 08
+H 010100000000
+S 3E0E010000001A3702012A2A2A2A2A2A2A2A2A2A2A2A2A2A2A2A2A0100000000002E3C
+S 3E0E010000001C3702012A2A2A2A2A2A2A2A2A2A2A2A2A2A2A2A2A01000000022A2A00863C
+";
+
+fn lines_of(full: u64, masked: u64, header: u64, unread: u64) -> LineCounts {
+    LineCounts { full, masked, header, unread }
+}
+
+#[test]
+fn lines_counted() {
+    assert_eq!(count_text(b""), Ok(LineCounts::default()));
+    assert_eq!(count_text(LOG), Ok(lines_of(1, 2, 1, 1)));
+    assert_eq!(count_text(&LOG.repeat(300)), Ok(lines_of(300, 600, 300, 300)));
+    // Pieces of whole lines add up; other pieces are refused.
+    for cut in 0..=LOG.len() {
+        let (first, rest) = LOG.split_at(cut);
+        if cut == 0 || first.ends_with(b"\n") {
+            let mut counts = count_text(first).unwrap();
+            counts += count_text(rest).unwrap();
+            assert_eq!(counts, lines_of(1, 2, 1, 1));
+        } else {
+            assert_eq!(count_text(first), Err(Refusal::NotALine));
+            assert_eq!(count_text(rest), Err(Refusal::NotALine));
+        }
+    }
+    let mut full = lines_of(u64::MAX, 1, 2, 3);
+    full += lines_of(1, 1, 1, 1);
+    assert_eq!(full, lines_of(u64::MAX, 2, 3, 4));
+    assert_eq!(bill(&full, 0), Err(Refusal::BillOutOfRange));
+}
+
+#[test]
+fn bills() {
+    let billed = |net, total| Ok(Bill { net, total });
+    for tax in [0, 190, 1_000] {
+        assert_eq!(bill(&LineCounts::default(), tax), billed(0, 0));
+        assert_eq!(bill(&lines_of(0, 0, 7, 9), tax), billed(0, 0));
+    }
+    assert_eq!(bill(&lines_of(1, 0, 0, 0), 0), billed(4, 4));
+    assert_eq!(bill(&lines_of(0, 1, 0, 0), 0), billed(2, 2));
+    assert_eq!(bill(&lines_of(1, 2, 1, 1), 190), billed(8, 10));
+    // Just below half a cent, half a cent, and just above it.
+    assert_eq!(bill(&lines_of(0, 1, 0, 0), 249), billed(2, 2));
+    assert_eq!(bill(&lines_of(0, 1, 0, 0), 250), billed(2, 3));
+    assert_eq!(bill(&lines_of(0, 1, 0, 0), 251), billed(2, 3));
+
+    const MOST: u64 = 4_294_967_295;
+    assert_eq!(bill(&lines_of(MOST, MOST, MOST, MOST), 1_000), billed(6 * MOST, 12 * MOST));
+    assert_eq!(bill(&lines_of(1, 1, 1, 1), 1_001), Err(Refusal::BillOutOfRange));
+    assert_eq!(bill(&LineCounts::default(), u64::MAX), Err(Refusal::BillOutOfRange));
+    for more in [MOST + 1, u64::MAX] {
+        for counts in [lines_of(more, 0, 0, 0), lines_of(0, more, 0, 0), lines_of(0, 0, more, 0), lines_of(0, 0, 0, more)] {
+            assert_eq!(bill(&counts, 0), Err(Refusal::BillOutOfRange));
+        }
+    }
+}
+
+#[test]
+fn bills_of_texts() {
+    assert_eq!(bill_text(b"", 190), Ok(Bill { net: 0, total: 0 }));
+    assert_eq!(bill_text(LOG, 190), Ok(Bill { net: 8, total: 10 }));
+    assert_eq!(bill_text(LOG, 1_001), Err(Refusal::BillOutOfRange));
+    assert_eq!(bill_text(b"", 1_001), Err(Refusal::BillOutOfRange));
+    // What is no line, wherever it stands; it is found before the tax is looked at.
+    for other in [&b"R 09\n"[..], b"\n", b"R 08\r\n", b"H 0c0000000102A5\n", b"F 3E0C000000000423005001853C\n", b"R 08"] {
+        for text in [[other, LOG].concat(), [LOG, other, LOG].concat(), [LOG, other].concat()] {
+            for tax in [190, 1_001] {
+                assert_eq!(bill_text(&text, tax), Err(Refusal::NotALine));
+            }
+            assert_eq!(count_text(&text), Err(Refusal::NotALine));
+        }
+    }
+}
+
 #[test]
 fn fixed_readings() {
     assert_eq!(message(&[0x23]), Ok(Message { command: 0x23, kind: None, len: 1 }));
@@ -631,6 +712,12 @@ fn numbers_that_fit() {
         }
         let told = told_in(room, |v, n| unsafe { sys::mdr_general_setting_info(setting.as_ptr(), setting.len(), v, n) });
         assert_eq!(told, front(&[0xD1, 5, 4, 10, 2, 3, 2]));
+        let told = told_in(room, |v, n| unsafe { sys::mdr_bill(1, 2, 1, 1, 190, v, n) });
+        assert_eq!(told, front(&[8, 10]));
+        let told = told_in(room, |v, n| unsafe { sys::mdr_bill_text(LOG.as_ptr(), LOG.len(), 190, v, n) });
+        assert_eq!(told, front(&[8, 10]));
+        let told = told_in(room, |v, n| unsafe { sys::mdr_count_text(LOG.as_ptr(), LOG.len(), v, n) });
+        assert_eq!(told, front(&[1, 2, 1, 1]));
     }
 }
 

@@ -1,9 +1,7 @@
 // Each tells the numbers of an answer and gives its status, 0 or the refusal's number; an answer that is never refused has none.
+use finding::Found;
 use frame::Unpacked;
 use frame::Written;
-use line_call::LineAnswer;
-use line_reader::LineRead;
-use scanner::Found;
 use scanner::Sight;
 use scanner::TakeAnswer;
 use telling::refuse;
@@ -13,12 +11,10 @@ use text::Characters;
 ghost use mathlib.Core.Path.{_≡_};
 ghost use Rattle.base.specs.Writing.{writtenTold};
 ghost use Rattle.framing.specs.Framing.{unpackedTold};
-ghost use Rattle.scanner.specs.Finding.{foundTold};
 ghost use Rattle.scanner.specs.Taking.{takeTold};
-ghost use Rattle.line_call.specs.LineCall.{lineTold};
-ghost use Rattle.line_reader.specs.LineReader.{readTold};
+ghost use Rattle.finding.specs.Finding.{foundTold};
 ghost use Rattle.telling.specs.Told.{statusOf, numbersOf, told, only};
-ghost use Rattle.numbers.specs.Numbers.{headerNumbers, spotNumbers, bitNumbers, sightNumbers, lineNumbers, lineReadNumbers, characterNumbers};
+ghost use Rattle.numbers.specs.Numbers.{headerNumbers, spotNumbers, bitNumbers, sightNumbers, characterNumbers};
 
 // The length of what was written.
 pub fn written_told(w: Written, values: &mut [u64]) -> u8
@@ -107,39 +103,6 @@ pub fn sight_told(sight: Sight, values: &mut [u64])
         Sight::Both { at, len } => {
             let numbers = [2, at as u64, len as u64];
             tell(&numbers, values);
-        }
-    }
-}
-
-pub fn line_told(answer: LineAnswer, values: &mut [u64]) -> u8
-    ensures { λ r. ⌜ r ≡ statusOf (lineTold answer) ⌝ }
-    ensures { λ _. ⌜ now (values .exit) ≡ told (numbersOf lineNumbers (lineTold answer)) (now (values .entry)) ⌝ }
-{
-    match answer {
-        LineAnswer::Line(n) => {
-            let numbers = [n as u64];
-            tell(&numbers, values);
-            0
-        }
-        LineAnswer::Nothing => {
-            let numbers = [0];
-            tell(&numbers, values);
-            0
-        }
-        LineAnswer::Refused(r) => refuse(r, values),
-    }
-}
-
-pub fn line_read_told(read: LineRead, values: &mut [u64]) -> u8
-    ensures { λ r. ⌜ r ≡ statusOf (readTold read) ⌝ }
-    ensures { λ _. ⌜ now (values .exit) ≡ told (numbersOf lineReadNumbers (readTold read)) (now (values .entry)) ⌝ }
-{
-    match read {
-        LineRead::Refused(r) => refuse(r, values),
-        _ => {
-            let numbers = numbers::line(read);
-            tell(&numbers, values);
-            0
         }
     }
 }

@@ -4,8 +4,6 @@ mod answers;
 pub use answers::characters_told;
 pub use answers::find_told;
 pub use answers::header_told;
-pub use answers::line_read_told;
-pub use answers::line_told;
 pub use answers::sight_told;
 pub use answers::take_told;
 pub use answers::written_told;

@@ -17,3 +17,8 @@ pick false a b = b
 abbrev pub onAccepted : {A B : Type 0} → (A → B) → Outcome A → Outcome B
 onAccepted f (accepted a) = accepted (f a)
 onAccepted f (refused n vs) = refused n vs
+
+-- an accepted value through a call; a refusal passes
+abbrev pub andThen : {A B : Type 0} → (A → Outcome B) → Outcome A → Outcome B
+andThen f (accepted a) = f a
+andThen f (refused n vs) = refused n vs

@@ -30,6 +30,7 @@ pub enum Refusal {
     WrongKind,
     WrongLength,
     CountFull,
+    BillOutOfRange,
 }
 
 impl Refusal {
@@ -71,6 +72,7 @@ impl Refusal {
             Refusal::WrongKind => 25,
             Refusal::WrongLength => 26,
             Refusal::CountFull => 27,
+            Refusal::BillOutOfRange => 28,
         }
     }
 }

@@ -1,4 +1,5 @@
 // The exported calls, for C and Rust to link.
+pub mod bills;
 pub mod frames;
 pub mod logging;
 pub mod readings;

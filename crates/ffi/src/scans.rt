@@ -9,9 +9,9 @@ use scanner::SkipAnswer;
 ghost use mathlib.Core.Path.{_≡_};
 ghost use Rattle.held.specs.Search.{sightOf};
 ghost use Rattle.scanner.specs.Scanner.{openCall, openTold, pushCall, pushTold};
-ghost use Rattle.scanner.specs.Finding.{findCall};
 ghost use Rattle.scanner.specs.Skipping.{skipCall, skipTold};
 ghost use Rattle.scanner.specs.Taking.{takeCall};
+ghost use Rattle.finding.specs.Finding.{findCall};
 ghost use Rattle.telling.specs.Told.{statusOf, numbersOf, told};
 ghost use Rattle.numbers.specs.Numbers.{bitNumbers, spotNumbers, sightNumbers};
 
@@ -77,7 +77,7 @@ fn found(scanner: Scanner, store: &[u8], values: &mut [u64]) -> u8
     ensures { λ r. ⌜ r ≡ statusOf (findCall scanner (now (store .entry))) ⌝ }
     ensures { λ _. ⌜ now (values .exit) ≡ told (numbersOf spotNumbers (findCall scanner (now (store .entry)))) (now (values .entry)) ⌝ }
 {
-    find_told(scanner::find(scanner, store), values)
+    find_told(finding::find(scanner, store), values)
 }
 
 #[no_mangle]

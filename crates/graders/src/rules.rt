@@ -48,6 +48,7 @@ pub fn rule(r: Refusal) {
         Refusal::WrongKind => say(b"under two bytes, or a kind that it does not read"),
         Refusal::WrongLength => say(b"the bytes run out, are too many or do not match the count"),
         Refusal::CountFull => say(b"a count of bytes would pass 18446744073709551615"),
+        Refusal::BillOutOfRange => say(b"a tax above 1000 or a line count above 4294967295"),
     }
 }
 

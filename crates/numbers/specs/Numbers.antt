@@ -27,6 +27,8 @@ use Rattle.noise.specs.declared.noise.OptionFlag.{OptionFlag}
 use Rattle.noise.specs.declared.noise.OptionFlag.the-variants.{Flag, NoFlag}
 use Rattle.noise.specs.declared.noise.NoiseReport.{NoiseReport}
 use Rattle.line_reader.specs.LineReader.{Line, unreadLine, headerLine, maskedLine, fullLine}
+use Rattle.counting.specs.declared.counting.LineCounts.{LineCounts}
+use Rattle.billing.specs.Billing.{Bill}
 use Rattle.payload.specs.declared.setting.GeneralSettingParam.{GeneralSettingParam}
 use Rattle.text.specs.declared.text.Characters.{Characters}
 use Rattle.text.specs.declared.text.Characters.the-variants.{Number, NoText}
@@ -187,6 +189,14 @@ listNumbers list = list .count ∷ []
 -- 1 is table one, any other number is table two
 unfoldable pub tableOf : ℕ → Table
 tableOf n = pick (eqb n 1) One Two
+
+-- `F`, `S`, `H` and `R` lines
+abbrev pub countNumbers : LineCounts → List ℕ
+countNumbers c = c .full ∷ c .masked ∷ c .header ∷ c .unread ∷ []
+
+-- net, total
+abbrev pub billNumbers : Bill → List ℕ
+billNumbers b = b .net ∷ b .total ∷ []
 
 -- slot, enabled
 abbrev pub settingNumbers : GeneralSettingParam → List ℕ

@@ -1,4 +1,5 @@
 // Each call, its answer, and the state and the store after it.
+use finding::Found;
 use gathering::LinesAnswer;
 use line_call::LineAnswer;
 use replay::bytes;
@@ -6,7 +7,6 @@ use replay::fill;
 use replay::number;
 use replay::refusal;
 use replay::word;
-use scanner::Found;
 use scanner::OpenAnswer;
 use scanner::PushAnswer;
 use scanner::Scanner;
@@ -85,8 +85,8 @@ fn taken(text: &mut [u8], k: usize, a: TakeAnswer) -> usize {
 
 // The first span: its offset and length, and its bytes.
 fn seen(s: Scanner, store: &[u8], text: &mut [u8], k: usize) -> usize {
-    let next = found(text, k, scanner::find(s, store));
-    bytes(text, next, scanner::look(s, store))
+    let next = found(text, k, finding::find(s, store));
+    bytes(text, next, finding::look(s, store))
 }
 
 pub fn take_in(state: State, store: &mut [u8], text: &mut [u8]) -> State {

@@ -1,5 +1,4 @@
 pub mod LawsScanner
-pub mod LawsFinding
 pub mod LawsTaking
 pub mod LawsSkipping
 pub mod Cases

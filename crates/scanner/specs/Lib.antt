@@ -1,4 +1,3 @@
 pub mod Scanner
-pub mod Finding
 pub mod Taking
 pub mod Skipping

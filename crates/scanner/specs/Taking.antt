@@ -1,13 +1,11 @@
 -- 01, "Scanner": "Take does what `next_raw` does".
 use Prim.Native.Nat.{ℕ}
 use mathlib.Core.Bool.{Bool, true, false}
-use mathlib.Core.List.{List, []}
-use mathlib.Core.Option.{Option}
-use Rattle.base.specs.Outcome.{Outcome, accepted, refused, pick}
+use mathlib.Core.List.{List}
+use Rattle.base.specs.Outcome.{Outcome, accepted, refused}
 use Rattle.base.specs.Refusal.{refusalTold}
-use Rattle.held.specs.Search.{Spot, spotOf}
 use Rattle.cutting.specs.Cutting.{takenOf, movedOf, isSpan}
-use Rattle.scanner.specs.Scanner.{Effect, refuses, heldOf, tooFar, gone}
+use Rattle.scanner.specs.Scanner.{Effect, refuses, heldOf, gone}
 use Rattle.scanner.specs.declared.scanner.Scanner.{Scanner}
 use Rattle.scanner.specs.declared.taking.TakeAnswer.{TakeAnswer}
 use Rattle.scanner.specs.declared.taking.TakeAnswer.the-variants.{Span, Nothing, Refused}
@@ -19,14 +17,6 @@ takeBy (accepted held) s store = gone (isSpan (takenOf (s .limit) held .span)) s
 
 unfoldable pub takeCall : Scanner → List ℕ → Effect Bool
 takeCall s store = takeBy (heldOf s store) s store
-
--- a call of ours: the next span's place, refused where a take would be
-abbrev pub peekBy : Outcome (List ℕ) → Scanner → Outcome (Option Spot)
-peekBy (refused n vs) s = refused n vs
-peekBy (accepted held) s = pick (tooFar s (movedOf (s .limit) held)) (refused 27 []) (accepted (spotOf held))
-
-unfoldable pub peekCall : Scanner → List ℕ → Outcome (Option Spot)
-peekCall s store = peekBy (heldOf s store) s
 
 -- the answer in 01's numbers
 abbrev pub takeTold : TakeAnswer → Outcome Bool

@@ -1,5 +1,4 @@
 // Splits a byte stream into frames: the caller lends the store; the state goes by value, or is lent too.
-mod finding;
 mod going;
 mod lent;
 mod scanner;
@@ -7,9 +6,6 @@ mod skipping;
 mod taking;
 
 pub use cutting::Moved;
-pub use finding::Found;
-pub use finding::find;
-pub use finding::look;
 pub use held::Sight;
 pub use held::seek;
 pub use scanner::Checked;
@@ -29,5 +25,4 @@ pub use skipping::Skipped;
 pub use skipping::skip;
 pub use taking::TakeAnswer;
 pub use taking::Taken;
-pub use taking::peek;
 pub use taking::take;

@@ -1,18 +1,14 @@
 // What `next_raw` does to the held bytes.
-use crate::finding::Found;
 use crate::going::go;
 use crate::scanner::Checked;
 use crate::scanner::Counted;
 use crate::scanner::Scanner;
-use crate::scanner::advance;
 use crate::scanner::check;
-use cutting::Moved;
 use cutting::decide;
 use frame::Refusal;
 ghost use mathlib.Core.Path.{_≡_};
 ghost use Rattle.base.specs.Outcome.{accepted};
-ghost use Rattle.scanner.specs.Finding.{foundTold};
-ghost use Rattle.scanner.specs.Taking.{takeCall, takeTold, peekCall};
+ghost use Rattle.scanner.specs.Taking.{takeCall, takeTold};
 
 pub enum TakeAnswer {
     Span,
@@ -23,37 +19,6 @@ pub enum TakeAnswer {
 pub struct Taken {
     pub answer: TakeAnswer,
     pub scanner: Scanner,
-}
-
-// The next span's place, refused where a take would be.
-pub fn peek(scanner: Scanner, store: &[u8]) -> Found
-    ensures { λ r. ⌜ foundTold r ≡ peekCall scanner (now (store .entry)) ⌝ }
-{
-    match check(scanner, store) {
-        Checked::Refused(r) => Found::Refused(r),
-        Checked::Fine => {
-            let count = scanner.count;
-            let c = decide(&store[..count], scanner.limit);
-            let moved = Moved {
-                pushed: 0,
-                handed: c.handed,
-                dropped: c.dropped,
-            };
-            match advance(scanner, count, moved) {
-                Counted::Refused(r) => Found::Refused(r),
-                Counted::Next(_) => {
-                    if c.span {
-                        Found::At {
-                            at: c.dropped,
-                            len: c.handed,
-                        }
-                    } else {
-                        Found::Nothing
-                    }
-                }
-            }
-        }
-    }
 }
 
 fn answered(span: bool) -> TakeAnswer

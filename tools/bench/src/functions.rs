@@ -1,5 +1,6 @@
 //! Each function beside the Rust's. On both sides a call is one that the compiler does not inline, on inputs that it does not know.
 use crate::system::processor_time;
+use common::bill::{self, Bill};
 use common::choice::Choice;
 use common::frames::{self, framed, house_plan};
 use common::lines::{self, Line};
@@ -72,7 +73,9 @@ pub fn table() {
     for piece in [64, 4_096] {
         scanners(piece);
     }
-    read_lines();
+    let log = session_log();
+    read_lines(&log);
+    bill_texts(&log);
 }
 
 // The Rust's functions, each a call that is not inlined.
@@ -439,14 +442,19 @@ fn rust_read_line(line: &[u8]) -> Option<Line> {
     lines::read(line)
 }
 
-/// The lines of the log of a mixed session of 1 MiB, all of them and those of each letter.
-fn read_lines() {
+/// The log of a mixed session of 1 MiB.
+fn session_log() -> Vec<u8> {
     let mut log = Vec::new();
     let mut scanner = frame::Scanner::new();
     scanner.push(&stream(Kind::Mixed, 2, 1 << 20));
     while let Some(span) = scanner.next_raw() {
         Log::default().line(&house_plan(), &span, &mut log);
     }
+    log
+}
+
+/// The lines of a log, all of them and those of each letter.
+fn read_lines(log: &[u8]) {
     let all: Vec<&[u8]> = log.split_inclusive(|&b| b == b'\n').collect();
     lines_row("the lines of a mixed session", &all);
     for letter in [b'F', b'S', b'H', b'R'] {
@@ -477,4 +485,37 @@ fn lines_row(name: &str, lines: &[&[u8]]) {
     );
     let bytes = lines.iter().map(|line| line.len()).sum::<usize>() / lines.len();
     row(&format!("read_line, {name}, {bytes} bytes each"), times);
+}
+
+#[inline(never)]
+fn rust_bill_text(text: &[u8], tax: u64) -> Result<Bill, u8> {
+    bill::bill_text(text, tax)
+}
+
+/// A log, and its lines of each letter, each as one text.
+fn bill_texts(log: &[u8]) {
+    bill_row("the log of a mixed session", log);
+    for letter in [b'F', b'S', b'H', b'R'] {
+        let of_it: Vec<&[u8]> = log.split_inclusive(|&b| b == b'\n').filter(|line| line[0] == letter).collect();
+        bill_row(&format!("its `{}` lines", char::from(letter)), &of_it.concat());
+    }
+}
+
+fn bill_row(name: &str, text: &[u8]) {
+    let mut values = [0; 2];
+    let Bill { net, total } = rust_bill_text(text, 190).expect("a log");
+    assert_eq!((ours::bill_text(text, 190, &mut values), values), (0, [net, total]));
+    let times = time(
+        |_| {
+            black_box(ours::bill_text(black_box(text), black_box(190), &mut values));
+            black_box(&values);
+        },
+        |_| {
+            let _ = black_box(rust_bill_text(black_box(text), black_box(190)));
+        },
+        1,
+    );
+    let lines = text.split_inclusive(|&b| b == b'\n').count();
+    let name = format!("bill_text, {name}, {} bytes each: a line", text.len() / lines);
+    row(&name, (times.0 / lines as f64, times.1 / lines as f64));
 }

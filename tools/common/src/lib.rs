@@ -1,5 +1,6 @@
-//! What the tools share: the choice of cases, frames and streams, why a decoder refuses, and the log of a stream and the reader of its lines
-//! over the Rust original. Nothing here calls the proved library.
+//! What the tools share: the choice of cases, frames and streams, why a decoder refuses, and over the Rust original the log of a stream, the
+//! reader of its lines and their bill. Nothing here calls the proved library.
+pub mod bill;
 pub mod causes;
 pub mod choice;
 pub mod counts;

@@ -209,3 +209,15 @@ pub fn all_lines(scanner: &mut Scanner, store: &mut [u8], plan: &[u8], work: &mu
 pub fn read_line(line: &[u8], out: &mut [u8], values: &mut [u64]) -> u8 {
     unsafe { sys::mdr_read_line(line.as_ptr(), line.len(), out.as_mut_ptr(), out.len(), values.as_mut_ptr(), values.len()) }
 }
+
+pub fn bill([full, masked, header, unread]: [u64; 4], tax: u64, values: &mut [u64]) -> u8 {
+    unsafe { sys::mdr_bill(full, masked, header, unread, tax, values.as_mut_ptr(), values.len()) }
+}
+
+pub fn bill_text(text: &[u8], tax: u64, values: &mut [u64]) -> u8 {
+    unsafe { sys::mdr_bill_text(text.as_ptr(), text.len(), tax, values.as_mut_ptr(), values.len()) }
+}
+
+pub fn count_text(text: &[u8], values: &mut [u64]) -> u8 {
+    unsafe { sys::mdr_count_text(text.as_ptr(), text.len(), values.as_mut_ptr(), values.len()) }
+}

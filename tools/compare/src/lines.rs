@@ -224,7 +224,7 @@ pub fn exhaustive(run: &mut Run) {
 }
 
 /// The text with a byte changed, put in or left out, cut off, longer, or in small letters.
-fn damage_text(c: &mut Choice, line: &mut Vec<u8>) {
+pub fn damage_text(c: &mut Choice, line: &mut Vec<u8>) {
     let b = match c.below(4) {
         0 => c.byte(),
         1 => c.of(b"abcdef \n\r@G/:`"),
@@ -254,13 +254,16 @@ pub fn span_of(bytes: &[u8]) -> Vec<u8> {
     span.unwrap_or(vec![START, END])
 }
 
-/// A span's line under some plan, a letter and the digits of a frame or of what may be one, or a header; now and then damaged.
-pub fn random(run: &mut Run, c: &mut Choice) {
+/// A span's line under the house plan or any other.
+pub fn span_line(c: &mut Choice) -> Vec<u8> {
+    let plan = if c.one_in(3) { (0..512).map(|_| c.below(9) as u8).collect() } else { house_plan() };
+    rendered(&plan, &span_of(&frame_like(c)))
+}
+
+/// A span's line, a letter and the digits of a frame or of what may be one, or a header; now and then damaged.
+pub fn line_like(c: &mut Choice) -> Vec<u8> {
     let mut bytes = match c.below(8) {
-        0..3 => {
-            let plan = if c.one_in(3) { (0..512).map(|_| c.below(9) as u8).collect() } else { house_plan() };
-            rendered(&plan, &span_of(&frame_like(c)))
-        }
+        0..3 => span_line(c),
         3 | 4 => line_of(c.of(b"FS"), &framed(c.byte(), c.byte(), &any(c))),
         5 | 6 => line_of(c.of(b"FSFSFSHR"), &frame_like(c)),
         _ => {
@@ -272,5 +275,9 @@ pub fn random(run: &mut Run, c: &mut Choice) {
     for _ in 0..c.of(&[0, 0, 0, 1, 1, 2, 5]) {
         damage_text(c, &mut bytes);
     }
-    run.case(&ReadLine { bytes, room: room(c), values: values(c) });
+    bytes
+}
+
+pub fn random(run: &mut Run, c: &mut Choice) {
+    run.case(&ReadLine { bytes: line_like(c), room: room(c), values: values(c) });
 }

@@ -1,5 +1,6 @@
 //! Feeds the proved library and the Rust original the same inputs, and stops at the first difference.
 mod alike;
+mod bills;
 mod case;
 mod framing;
 mod inputs;
@@ -35,6 +36,7 @@ fn main() {
     ranges::exhaustive(&mut run);
     sessions::exhaustive(&mut run);
     lines::exhaustive(&mut run);
+    bills::exhaustive(&mut run);
     println!("{} of them exhaustive, after {} s", run.tally.total(), start.elapsed().as_secs());
 
     let mut c = Choice::new(seed);
@@ -44,6 +46,9 @@ fn main() {
         }
         for _ in 0..12 {
             lines::random(&mut run, &mut c);
+        }
+        for _ in 0..4 {
+            bills::random(&mut run, &mut c);
         }
         for _ in 0..12 {
             readings::random(&mut run, &mut c);

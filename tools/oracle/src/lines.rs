@@ -224,8 +224,8 @@ fn packed(l: &mut List) {
 
 /// The longest line that a session can have, and the longest that was written before, when names had lengths: 255 devices, there with names
 /// of 255 bytes, and all that is escaped which can be.
-fn longest(l: &mut List) {
-    for (name, longest) in [(0, 13_297), (255, 143_347)] {
+pub fn longest_lines() -> [String; 2] {
+    [(0, 13_297), (255, 143_347)].map(|(name, longest)| {
         // So many devices have another status, which moves the sum.
         let devices = |others: usize| {
             let mut p = vec![START, 0x02, 255];
@@ -237,9 +237,15 @@ fn longest(l: &mut List) {
             p.push(END);
             p
         };
-        let line = |p: &Vec<u8>| format!("S {}\n", hex(&framed(0x0E, START, p)));
-        let p = (0..255).map(devices).find(|p| line(p).len() == longest).expect("a sum that is escaped");
-        whole(l, line(&p).as_bytes(), p.len());
+        let line = |others: usize| format!("S {}\n", hex(&framed(0x0E, START, &devices(others))));
+        (0..255).map(line).find(|line| line.len() == longest).expect("a sum that is escaped")
+    })
+}
+
+fn longest(l: &mut List) {
+    for line in longest_lines() {
+        let n = payload(&lines::read(line.as_bytes())).len();
+        whole(l, line.as_bytes(), n);
     }
 }
 

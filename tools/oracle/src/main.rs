@@ -1,5 +1,7 @@
-//! Prints the case lists of the replay programs, of `inlog` and of `tally`, and the answers that the Rust original gives.
+//! Prints the case lists of the replay programs, of `inlog`, of `tally` and of `bill`, and the answers that the Rust original gives.
 mod again;
+mod bill_program;
+mod bills;
 mod causes;
 mod frames;
 mod inlog;
@@ -23,6 +25,8 @@ fn main() {
         Some("again") => again::list(),
         Some("inlog") => inlog::list(),
         Some("tally") => tally::list(),
+        Some("bill") => bytes(bills::list()),
+        Some("bill_program") => bill_program::list(),
         _ => usage(),
     };
     let printed = match words.get(1).map(String::as_str) {
@@ -38,6 +42,6 @@ fn bytes(list: text::List) -> (Vec<u8>, Vec<u8>) {
 }
 
 fn usage() -> ! {
-    eprintln!("usage: oracle frame|scanner|payload|log|lines|again|inlog|tally cases|answers");
+    eprintln!("usage: oracle frame|scanner|payload|log|lines|again|inlog|tally|bill|bill_program cases|answers");
     std::process::exit(2)
 }

@@ -14,7 +14,7 @@ use denote.Struct.Steps.{spelt}
 use denote.Struct.Laws as LL
 use Rattle.ffi.proofs.Walk.{hears, says-all, also, last, mv}
 use Rattle.scanner.specs.declared.scanner.Scanner.{Scanner}
-use Rattle.scanner.specs.Finding.{findCall}
+use Rattle.finding.specs.Finding.{findCall}
 use Rattle.telling.specs.Told.{statusOf, numbersOf, told}
 use Rattle.numbers.specs.Numbers.{spotNumbers}
 use Rattle.scanner.proofs.scanner.Scanner as T

@@ -1,0 +1,2 @@
+pub mod LawsBilling
+pub mod CasesBilling

@@ -1,0 +1,3 @@
+pub mod LawsCounting
+pub mod LawsLines
+pub mod LawsCounts

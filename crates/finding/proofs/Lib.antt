@@ -1,0 +1,2 @@
+pub mod LawsFinding
+pub mod LawsPeeking

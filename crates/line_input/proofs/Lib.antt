@@ -1,0 +1,2 @@
+pub mod LawsFilling
+pub mod LawsFinding
