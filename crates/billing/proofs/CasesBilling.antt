@@ -5,7 +5,6 @@ use Rattle.base.specs.Outcome.{accepted, refused}
 use Rattle.digits.specs.Digits.{decimalValue}
 use Rattle.line_reader.specs.LineReader.{unreadRead, byLetter, readOf}
 use Rattle.counting.specs.Counting.{linesFrom, readAll, noLines, partsIn, textCounts}
-use Rattle.counting.specs.declared.counting.LineCounts.{LineCounts}
 use Rattle.billing.specs.Billing.{MOST, outOfRange, billOf, textBill}
 
 -- a line of each letter at 19 per cent: 7.14 cents

@@ -38,10 +38,6 @@ module _ (c : LineCounts) (tax : ℕ) where
   unfolding outOfRange
   range-in a (f, s, h, r) = rw (le-ltb 1000 tax a, le-ltb MOST (c .full) f, le-ltb MOST (c .masked) s, le-ltb MOST (c .header) h, le-ltb MOST (c .unread) r)
 
-  -- what the product comes to at most: no step passes eight bytes
-  pub product : (net : ℕ) → net ≤ 6 * MOST → tax ≤ 1000 → net * (1000 + tax) ≤ 6 * MOST * 2000
-  product net n a = let t : 1000 + tax ≤ 2000 = omega arith in mul-le-mul n t
-
   pub billed : outOfRange c tax ≡ false → billOf c tax ≡ accepted (record { net = netOf c; total = totalOf (netOf c) tax })
   unfolding billOf
   billed e = rw e
@@ -49,6 +45,18 @@ module _ (c : LineCounts) (tax : ℕ) where
   pub not-billed : outOfRange c tax ≡ true → billOf c tax ≡ refused 28 []
   unfolding billOf
   not-billed e = rw e
+
+  -- an accepted bill has the net of the counts
+  net-billed : {b : Bill} → billOf c tax ≡ accepted b → (tax ≤ 1000) × (b .net ≡ netOf c)
+  net-billed {b} = go (outOfRange c tax) refl
+    where
+      go : (t : Bool) → outOfRange c tax ≡ t → billOf c tax ≡ accepted b → (tax ≤ 1000) × (b .net ≡ netOf c)
+      go true e k = let z : _≡_ {A = ℕ} 0 1 = cc (not-billed e) in absurd (omega arith)
+      go false e k = (in-range e .0, let q : b ≡ record { net = netOf c; total = totalOf (netOf c) tax } = cc (billed e) in rw q)
+
+-- what the product comes to at most: no step passes eight bytes
+pub product : (net tax : ℕ) → net ≤ 6 * MOST → tax ≤ 1000 → net * (1000 + tax) ≤ 6 * MOST * 2000
+product net tax n a = let t : 1000 + tax ≤ 2000 = omega arith in mul-le-mul n t
 
 pub net-of : (c : LineCounts) → netOf c ≡ 4 * c .full + 2 * c .masked
 net-of c = omega arith
@@ -90,20 +98,13 @@ pub record Joined (xs ys : List ℕ) (tax : ℕ) (b d : Bill) : Type 0 where
   pub net : bill .net ≡ b .net + d .net
 
 module _ (xs ys : List ℕ) (tax : ℕ) {c d : LineCounts} (ex : textCounts xs ≡ accepted c) (ey : textCounts ys ≡ accepted d) where
-  net-billed : (c : LineCounts) {b : Bill} → billOf c tax ≡ accepted b → (tax ≤ 1000) × (b .net ≡ netOf c)
-  net-billed c {b} = go (outOfRange c tax) refl
-    where
-      go : (t : Bool) → outOfRange c tax ≡ t → billOf c tax ≡ accepted b → (tax ≤ 1000) × (b .net ≡ netOf c)
-      go true e k = let z : _≡_ {A = ℕ} 0 1 = cc (not-billed c tax e) in absurd (omega arith)
-      go false e k = (in-range c tax e .0, let q : b ≡ record { net = netOf c; total = totalOf (netOf c) tax } = cc (billed c tax e) in rw q)
-
   -- "where two texts are both billed, and no summed count passes the bound, the joined text's net is the sum"
   pub joined-net : {b e : Bill} → textBill xs tax ≡ accepted b → textBill ys tax ≡ accepted e → Within MOST (added c d) → Joined xs ys tax b e
   joined-net {b} {e} bx by w =
-      let k = net-billed c (rw (text-bill xs tax, ex) at bx) in
-      let l = net-billed d (rw (text-bill ys tax, ey) at by) in
+      let k = net-billed c tax (rw (text-bill xs tax, ex) at bx) in
+      let l = net-billed d tax (rw (text-bill ys tax, ey) at by) in
       record {
         bill = record { net = netOf (added c d); total = totalOf (netOf (added c d)) tax };
         is-billed = text-bill (xs ++ ys) tax ∙ rw (text-behind xs ys ex, ey) (billed (added c d) tax (range-in (added c d) tax (k .0) w));
-        net = rw (k .1, l .1) (omega arith);
+        net = omega (arith, k .1, l .1);
       }

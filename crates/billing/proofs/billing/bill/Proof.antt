@@ -1,10 +1,9 @@
 use Prim.Native.Nat.{_+_, _*_, _≤_}
-use mathlib.Core.Path.{_≡_, sym, ap, _∙_}
+use mathlib.Core.Path.{sym, _∙_}
 use native.Mathlib.Omega.{arith}
 use borrow.Author.Needs.{needs}
-use Rattle.base.specs.Outcome.{accepted}
 use Rattle.counting.proofs.LawsCounts.{Within}
-use Rattle.billing.specs.Billing.{Bill, MOST, totalOf, billOf}
+use Rattle.billing.specs.Billing.{MOST}
 use Rattle.billing.proofs.LawsBilling.{in-range, product, billed, not-billed, net-of}
 use Rattle.billing.proofs.billing.bill.Statement.{statement}
 use Rattle.billing.proofs.billing.bill.Tie as tie
@@ -16,7 +15,7 @@ bounds : (c : tie.Else1) → let a = c .before .before .args in (a .tax ≤ 1000
 bounds c = let a = c .before .before .args in in-range (a .counts) (a .tax) (sym (c .before .out-of-range .ensures) ∙ c .if1 .left)
 
 whole : (c : tie.Else1) → let a = c .before .before .args in (4 * a .counts .full + 2 * a .counts .masked) * (1000 + a .tax) ≤ 6 * MOST * 2000
-whole c = let a = c .before .before .args in product (a .counts) (a .tax) (4 * a .counts .full + 2 * a .counts .masked) (omega (arith, bounds c .1)) (bounds c .0)
+whole c = let a = c .before .before .args in product (4 * a .counts .full + 2 * a .counts .masked) (a .tax) (omega (arith, bounds c .1)) (bounds c .0)
 
 returns-2 : tie.Need-returns-2
 returns-2 c =

@@ -1,8 +1,6 @@
-use mathlib.Core.Path.{_≡_, sym, _∙_}
+use mathlib.Core.Path.{sym}
 use borrow.Author.Needs.{needs}
-use Rattle.base.specs.Outcome.{andThen}
-use Rattle.counting.specs.Counting.{textCounts, countedTold}
-use Rattle.billing.specs.Billing.{billOf, textBill}
+use Rattle.billing.specs.Billing.{textBill}
 use Rattle.billing.proofs.billing.bill_text.Statement.{statement}
 use Rattle.billing.proofs.billing.bill_text.Tie as tie
 
