@@ -1,4 +1,4 @@
-/* The MDR frame log: frames, scanner, readings and the masked log.
+/* The MDR frame log: frames, scanner, readings, the last noise reports and the masked log.
  *
  * A slice is two arguments, a pointer and a length. No pointer may be null, also where its length is 0. What a call may write to must not
  * overlap anything else that the call is lent. No call keeps a pointer, allocates, or has a state of its own, so calls on different buffers
@@ -215,6 +215,34 @@ int32_t mdr_eq_bias(size_t count);
 
 /* A band's gain, from its step, in an equalizer with so many steps: -10 to 249. */
 int32_t mdr_gain(size_t count, uint8_t step);
+
+/* ---- the last noise reports ----
+ *
+ * A window over the noise reports of a session, which are handed to it one by one, counts those among the last `width`: how many are off,
+ * noise cancelling and ambient, and how many hold an ambient level, whatever their mode. Where fewer have come since the opening, it counts
+ * those. The caller keeps the struct, and each call is lent it as the call before left it. Any struct is taken, also one that no call made:
+ * a width of 0 counts as 1, one above 64 as 64.
+ *
+ * Each row has a binary digit for each of the last 64 reports, whatever the width, the newest in the lowest place. */
+
+struct mdr_noise_window {
+    uint64_t width;   /* 1 to 64 from an opening on */
+    uint64_t off;     /* 1 where the report was off */
+    uint64_t anc;     /* noise cancelling */
+    uint64_t ambient; /* ambient */
+    uint64_t level;   /* held an ambient level */
+};
+
+/* The window becomes one of this width that no report has come to, whatever it was: a width of 0 becomes 1, one above 64 becomes 64. Never
+ * refuses: the status is 0. */
+uint8_t mdr_window_open(struct mdr_noise_window *window, uint64_t width);
+
+/* [off, anc, ambient, level] of the last reports, the one of this payload included, which mdr_noise reads. The width stays as it is.
+ * Refused (25, 26) as mdr_noise refuses, the window stays. */
+uint8_t mdr_window_push(struct mdr_noise_window *window, const uint8_t *payload, size_t payload_len, uint64_t *values, size_t values_len);
+
+/* [off, anc, ambient, level] of the last reports. Changes nothing. Never refuses: the status is 0. */
+uint8_t mdr_window_counts(const struct mdr_noise_window *window, uint64_t *values, size_t values_len);
 
 /* ---- the log ---- */
 

@@ -598,6 +598,49 @@ pub fn noise(payload: &[u8]) -> Result<Noise, Refusal> {
     })
 }
 
+/// How many of the last noise reports a window has of each mode.
+#[derive(Clone, Copy, Debug, Default, PartialEq, Eq)]
+pub struct NoiseCounts {
+    pub off: u64,
+    pub anc: u64,
+    pub ambient: u64,
+    /// those that hold an ambient level, whatever their mode
+    pub level: u64,
+}
+
+fn noise_counts([off, anc, ambient, level]: [u64; 4]) -> NoiseCounts {
+    NoiseCounts { off, anc, ambient, level }
+}
+
+/// A window over the noise reports of a session: the counts are those of the last so many, or of all where fewer have come.
+#[derive(Clone, Copy, Debug, PartialEq, Eq)]
+pub struct NoiseWindow(sys::NoiseWindow);
+
+impl NoiseWindow {
+    /// No report has come. A width of 0 is taken as 1, one above 64 as 64.
+    pub fn open(width: u64) -> NoiseWindow {
+        let mut window = sys::NoiseWindow::default();
+        unsafe { sys::mdr_window_open(&mut window, width) };
+        NoiseWindow(window)
+    }
+
+    /// The report of a payload comes: the counts with it. Refused as [`noise`] refuses; the window is then as it was.
+    pub fn push(&mut self, payload: &[u8]) -> Result<NoiseCounts, Refusal> {
+        told(|v, n| unsafe { sys::mdr_window_push(&mut self.0, payload.as_ptr(), payload.len(), v, n) }).map(noise_counts)
+    }
+
+    pub fn counts(&self) -> NoiseCounts {
+        let mut v = [0; 4];
+        unsafe { sys::mdr_window_counts(&self.0, v.as_mut_ptr(), v.len()) };
+        noise_counts(v)
+    }
+
+    /// How many reports it counts at most: 1 to 64.
+    pub fn width(&self) -> u64 {
+        self.0.width
+    }
+}
+
 /// The levels from `min` to `max` by `step`.
 #[derive(Clone, Copy, Debug, PartialEq, Eq)]
 pub struct AmbientRange {

@@ -21,6 +21,18 @@ pub struct SupportFunction {
     pub priority: u8,
 }
 
+/// A window over the last noise reports. A row has a binary digit for each of the last 64, the newest lowest.
+#[repr(C)]
+#[derive(Clone, Copy, Debug, Default, PartialEq, Eq)]
+pub struct NoiseWindow {
+    pub width: u64,
+    pub off: u64,
+    pub anc: u64,
+    pub ambient: u64,
+    /// 1 for those that hold an ambient level
+    pub level: u64,
+}
+
 unsafe extern "C" {
     pub fn mdr_data_type(byte: u8) -> u8;
     pub fn mdr_checksum(bytes: *const u8, bytes_len: usize) -> u8;
@@ -74,6 +86,10 @@ unsafe extern "C" {
     pub fn mdr_eq_shape(count: usize) -> u8;
     pub fn mdr_eq_bias(count: usize) -> i32;
     pub fn mdr_gain(count: usize, step: u8) -> i32;
+
+    pub fn mdr_window_open(window: *mut NoiseWindow, width: u64) -> u8;
+    pub fn mdr_window_push(window: *mut NoiseWindow, payload: *const u8, payload_len: usize, values: *mut u64, values_len: usize) -> u8;
+    pub fn mdr_window_counts(window: *const NoiseWindow, values: *mut u64, values_len: usize) -> u8;
 
     pub fn mdr_house_plan(plan: *mut u8);
     pub fn mdr_plan_fine(plan: *const u8, plan_len: usize) -> bool;

@@ -528,6 +528,76 @@ fn fixed_readings() {
     assert_eq!(general_setting(&[0xD7, 0xD1, 0x00, 0x01]), Ok(GeneralSetting { slot: 0xD1, enabled: false }));
 }
 
+/// Reports of each mode, with a level and without; two payloads are none.
+const REPORTS: [&[u8]; 7] = [
+    &[0x67, 0x15, 0x01, 0x00, 0x00, 0x00, 0x05],
+    &[0x67, 0x01, 0x01, 0x01, 0x00],
+    &[0x67, 0x14, 0x01, 0x01, 0x00],
+    &[0x69, 0x17, 0x01, 0x01, 0x00, 0x00, 0x06],
+    &[0x67, 0x01, 0x01, 0x01, 0x01],
+    &[0x69, 0x22, 0x01, 0x01, 0x00],
+    &[0x69, 0x22, 0x01, 0x01, 0x00, 0x00],
+];
+
+/// The last of these, counted afresh.
+fn last_counted(width: usize, reports: &[Noise]) -> NoiseCounts {
+    let last = &reports[reports.len().saturating_sub(width)..];
+    let of = |mode| last.iter().filter(|r| r.mode == mode).count() as u64;
+    NoiseCounts {
+        off: of(NoiseMode::Off),
+        anc: of(NoiseMode::Anc),
+        ambient: of(NoiseMode::Ambient),
+        level: last.iter().filter(|r| r.ambient_level.is_some()).count() as u64,
+    }
+}
+
+#[test]
+fn last_reports() {
+    let mut w = NoiseWindow::open(2);
+    assert_eq!((w.width(), w.counts()), (2, NoiseCounts::default()));
+    assert_eq!(w.push(REPORTS[0]), Ok(NoiseCounts { off: 1, anc: 0, ambient: 0, level: 1 }));
+    assert_eq!(w.push(REPORTS[4]), Ok(NoiseCounts { off: 1, anc: 1, ambient: 0, level: 1 }));
+    let before = w;
+    assert_eq!(w.push(REPORTS[2]), Err(Refusal::WrongKind));
+    assert_eq!(w.push(REPORTS[5]), Err(Refusal::WrongLength));
+    assert_eq!(w, before);
+    assert_eq!(w.push(REPORTS[6]), Ok(NoiseCounts { off: 0, anc: 1, ambient: 1, level: 1 }));
+    assert_eq!(w.counts(), NoiseCounts { off: 0, anc: 1, ambient: 1, level: 1 });
+
+    let far = [(0, 1), (65, 64), (128, 64), (1 << 32, 64), (u64::MAX, 64)];
+    for (width, nearest) in (1..=64).map(|width| (width, width)).chain(far) {
+        let mut w = NoiseWindow::open(width);
+        assert_eq!(w.width(), nearest);
+        let mut reports = vec![];
+        for i in 0..200 {
+            let payload = REPORTS[i * i / 3 % REPORTS.len()];
+            let (told, read) = (w.push(payload), noise(payload));
+            reports.extend(read);
+            let counted = last_counted(nearest as usize, &reports);
+            assert_eq!((told, w.counts()), (read.map(|_| counted), counted));
+        }
+        assert!(reports.len() > 64 && w.width() == nearest);
+    }
+}
+
+/// A window that no call made: its width is taken as the nearer end, and stays.
+#[test]
+fn written_windows() {
+    for (width, ones) in [(0, 1), (1, 1), (63, 63), (64, 64), (65, 64), (u64::MAX, 64)] {
+        let mut w = sys::NoiseWindow { width, off: u64::MAX, anc: 0, ambient: 1 << 63, level: 1 };
+        let top = u64::from(ones == 64);
+        let mut v = [99; 5];
+        assert_eq!(unsafe { sys::mdr_window_counts(&w, v.as_mut_ptr(), v.len()) }, 0);
+        assert_eq!(v, [ones, 0, top, 1, 99]);
+        let anc = REPORTS[4];
+        assert_eq!(unsafe { sys::mdr_window_push(&mut w, anc.as_ptr(), anc.len(), v.as_mut_ptr(), v.len()) }, 0);
+        assert_eq!(v, [ones - 1, 1, 0, u64::from(ones > 1), 99]);
+        assert_eq!(w, sys::NoiseWindow { width, off: u64::MAX - 1, anc: 1, ambient: 0, level: 2 });
+        assert_eq!(unsafe { sys::mdr_window_open(&mut w, width) }, 0);
+        assert_eq!(w, sys::NoiseWindow { width: ones, ..Default::default() });
+    }
+}
+
 #[test]
 fn setting_texts() {
     let info = GeneralSettingInfo { slot: 0xD2, name: "été", summary: "Al", name_characters: 3, summary_characters: 2 };
@@ -718,6 +788,11 @@ fn numbers_that_fit() {
         assert_eq!(told, front(&[8, 10]));
         let told = told_in(room, |v, n| unsafe { sys::mdr_count_text(LOG.as_ptr(), LOG.len(), v, n) });
         assert_eq!(told, front(&[1, 2, 1, 1]));
+        let mut w = sys::NoiseWindow { width: 3, off: 5, anc: 2, ambient: 0, level: 7 };
+        let told = told_in(room, |v, n| unsafe { sys::mdr_window_counts(&w, v, n) });
+        assert_eq!(told, front(&[2, 1, 0, 3]));
+        let told = told_in(room, |v, n| unsafe { sys::mdr_window_push(&mut w, REPORTS[6].as_ptr(), REPORTS[6].len(), v, n) });
+        assert_eq!(told, front(&[1, 1, 1, 3]));
     }
 }
 
@@ -758,6 +833,7 @@ fn causes_of_fixed_readings() {
         (&[0x67, 0x17, 0x01, 0x00, 0x00, 0x01, 0x05, 0x00], WrongLength),
     ];
     refused(|p| noise(p).err(), payloads);
+    refused(|p| NoiseWindow::open(10).push(p).err(), payloads);
     let payloads: &[(&[u8], Refusal)] = &[
         (&[0xD7, 0x00], WrongLength),
         (&[0xD7, 0xD1, 0x01], WrongLength),

@@ -7,10 +7,10 @@ mod tax;
 use billing::Billed;
 use billing::LineCounts;
 use billing::bill;
+use decimal::Argument;
 use lines::count_all;
 use say::complain;
 use say::tell;
-use tax::Tax;
 use tax::tax_given;
 
 fn tell_all(counts: LineCounts, net: u64, total: u64) -> bool {
@@ -50,13 +50,13 @@ fn bill_at(tax: u64) {
 
 fn main() {
     match tax_given() {
-        Tax::PerThousand(tax) => bill_at(tax),
-        Tax::Missing => complain(
+        Argument::Number(tax) => bill_at(tax),
+        Argument::Missing => complain(
             b"bill: refused 28, no tax is given; it is decimal digits, per thousand, from 0 to 1000\n",
         ),
-        Tax::NotANumber => complain(
+        Argument::NotANumber => complain(
             b"bill: refused 28, the tax is no number; it is decimal digits, per thousand, from 0 to 1000\n",
         ),
-        Tax::TooMany => complain(b"bill: takes one argument, the tax per thousand\n"),
+        Argument::TooMany => complain(b"bill: takes one argument, the tax per thousand\n"),
     }
 }

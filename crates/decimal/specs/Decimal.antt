@@ -1,4 +1,4 @@
--- The number that a text of decimal digits stands for, for the argument of a program (C-18).
+-- The number that a text of decimal digits stands for, for the argument of a program (C-18, C-19).
 use Prim.Native.Nat.{ℕ, _+_, _*_, min}
 use mathlib.Core.List.{List, [], _∷_}
 use mathlib.Core.Option.{Option, none, some}
@@ -7,6 +7,8 @@ use Rattle.base.specs.Outcome.{pick}
 use Rattle.digits.specs.Digits.{decimalValue}
 use Rattle.decimal.specs.declared.decimal.Decimal.{Decimal}
 use Rattle.decimal.specs.declared.decimal.Decimal.the-variants.{Number, NotANumber}
+use Rattle.decimal.specs.declared.decimal.Argument.{Argument}
+use Rattle.decimal.specs.declared.decimal.Argument.the-variants as A
 
 abbrev pub withDigit : (n digit : ℕ) → ℕ
 withDigit n digit = n * 10 + digit
@@ -35,3 +37,11 @@ toldNumber (some n) = some (capped n)
 abbrev pub decimalTold : Decimal → Option ℕ
 decimalTold (Number n) = some n
 decimalTold NotANumber = none
+
+abbrev pub argumentBy : Option ℕ → Argument
+argumentBy none = A.NotANumber
+argumentBy (some n) = A.Number n
+
+-- the program's name and one argument more, which is a number
+unfoldable pub argumentOf : (count : ℕ) → List ℕ → Argument
+argumentOf count text = pick (ltb count 2) A.Missing (pick (ltb 2 count) A.TooMany (argumentBy (toldNumber (numberOf text))))

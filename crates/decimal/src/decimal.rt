@@ -2,7 +2,7 @@
 use digits::decimal;
 ghost use mathlib.Core.Path.{_≡_};
 ghost use Prim.Native.Nat.{_<_};
-ghost use Rattle.decimal.specs.Decimal.{capped, withDigit, numberOf, toldNumber, decimalTold};
+ghost use Rattle.decimal.specs.Decimal.{capped, withDigit, numberOf, toldNumber, decimalTold, argumentOf};
 
 pub enum Decimal {
     Number(u64),
@@ -39,4 +39,28 @@ pub fn read_decimal(text: &[u8]) -> Decimal
         i += 1;
     }
     Decimal::Number(n)
+}
+
+// What the one argument of a program says.
+pub enum Argument {
+    Number(u64),
+    Missing,
+    NotANumber,
+    TooMany,
+}
+
+// `count` is how many arguments there are, the program's name being the first, and `text` is the second.
+pub fn number_argument(count: usize, text: &[u8]) -> Argument
+    ensures { λ r. ⌜ r ≡ argumentOf count (now (text .entry)) ⌝ }
+{
+    if count < 2 {
+        return Argument::Missing;
+    }
+    if count > 2 {
+        return Argument::TooMany;
+    }
+    match read_decimal(text) {
+        Decimal::Number(n) => Argument::Number(n),
+        Decimal::NotANumber => Argument::NotANumber,
+    }
 }

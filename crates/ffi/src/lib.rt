@@ -4,3 +4,4 @@ pub mod frames;
 pub mod logging;
 pub mod readings;
 pub mod scans;
+pub mod windows;

@@ -10,9 +10,10 @@ use original::mdr::DataType;
 use original::mdr::frame::{self, checksum, escape_into, pack, pack_into, unescape, unpack};
 use original::mdr::frame_8192;
 use original::mdr::payload::{
-    Message, Reading, Table, decode_battery, decode_equalizer, decode_general_setting_info, decode_general_setting_param,
-    decode_noise, decode_noise_capability, decode_paired_devices, decode_support_functions,
+    Message, NoiseReport, Reading, Table, decode_battery, decode_equalizer, decode_general_setting_info,
+    decode_general_setting_param, decode_noise, decode_noise_capability, decode_paired_devices, decode_support_functions,
 };
+use std::collections::VecDeque;
 use std::hint::black_box;
 
 /// How many different inputs each function is timed on.
@@ -69,6 +70,9 @@ pub fn table() {
         framing(n);
     }
     decoders();
+    for width in [1, 10, 64] {
+        windows(width);
+    }
     characters();
     for piece in [64, 4_096] {
         scanners(piece);
@@ -263,6 +267,70 @@ fn decoders() {
     decoder("general setting, its numbers not asked for", 7, 0, ours::general_setting, decode_general_setting_param);
     decoder("setting texts", 8, 16, ours::general_setting_info, decode_general_setting_info);
     decoder("setting texts, their numbers not asked for", 8, 0, ours::general_setting_info, decode_general_setting_info);
+}
+
+/// The last noise reports, and how many of them are of each mode and hold a level.
+struct LastReports {
+    width: usize,
+    last: VecDeque<NoiseReport>,
+    counts: [u64; 4],
+}
+
+impl LastReports {
+    #[inline(never)]
+    fn push(&mut self, payload: &[u8]) -> Option<[u64; 4]> {
+        let Some(Reading::Noise(report)) = decode_noise(&Message::split(payload)?) else { return None };
+        if self.last.len() == self.width
+            && let Some(oldest) = self.last.pop_front()
+        {
+            self.counts[oldest.mode as usize] -= 1;
+            self.counts[3] -= u64::from(oldest.ambient_level.is_some());
+        }
+        self.counts[report.mode as usize] += 1;
+        self.counts[3] += u64::from(report.ambient_level.is_some());
+        self.last.push_back(report);
+        Some(self.counts)
+    }
+
+    #[inline(never)]
+    fn counts(&self) -> [u64; 4] {
+        self.counts
+    }
+}
+
+fn windows(width: usize) {
+    let mut c = Choice::new(width as u64);
+    let payloads: Vec<Vec<u8>> = (0..INPUTS).map(|_| frames::noise(&mut c, 0x67)).collect();
+    let mut values = [0; 4];
+    let mut window = ours::NoiseWindow::default();
+    ours::window_open(&mut window, width as u64);
+    let mut rust = LastReports { width, last: VecDeque::with_capacity(width), counts: [0; 4] };
+    for payload in payloads.iter().chain(&payloads) {
+        assert_eq!(ours::window_push(&mut window, payload, &mut values), 0);
+        assert_eq!(rust.push(payload), Some(values));
+    }
+    let times = time(
+        |i| {
+            black_box(ours::window_push(&mut window, black_box(&payloads[i]), &mut values));
+            black_box(&values);
+        },
+        |i| {
+            black_box(rust.push(black_box(&payloads[i])));
+        },
+        INPUTS,
+    );
+    row(&format!("window_push, width {width}, beside `decode_noise` and a `VecDeque`"), times);
+    let times = time(
+        |_| {
+            black_box(ours::window_counts(black_box(&window), &mut values));
+            black_box(&values);
+        },
+        |_| {
+            black_box(black_box(&rust).counts());
+        },
+        INPUTS,
+    );
+    row(&format!("window_counts, width {width}, beside counts that are kept"), times);
 }
 
 /// The characters of names of every kind, some of them no text, then of one kind each.

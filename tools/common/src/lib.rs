@@ -1,5 +1,5 @@
 //! What the tools share: the choice of cases, frames and streams, why a decoder refuses, and over the Rust original the log of a stream, the
-//! reader of its lines and their bill. Nothing here calls the proved library.
+//! reader of its lines and their bill, and the counts of its last noise reports. Nothing here calls the proved library.
 pub mod bill;
 pub mod causes;
 pub mod choice;
@@ -9,3 +9,4 @@ pub mod lines;
 pub mod log;
 pub mod settings;
 pub mod streams;
+pub mod window;

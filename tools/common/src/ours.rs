@@ -4,7 +4,7 @@
 #[path = "../../../bindings/rust/src/sys.rs"]
 mod sys;
 
-pub use sys::{Scanner, SupportFunction};
+pub use sys::{NoiseWindow, Scanner, SupportFunction};
 
 // SAFETY, of every call below: a slice's pointer and length are those of one Rust slice, so that they are valid and never null, and what is
 // written to is lent to that call alone.
@@ -160,6 +160,18 @@ pub fn eq_bias(steps: usize) -> i32 {
 
 pub fn gain(steps: usize, step: u8) -> i32 {
     unsafe { sys::mdr_gain(steps, step) }
+}
+
+pub fn window_open(window: &mut NoiseWindow, width: u64) -> u8 {
+    unsafe { sys::mdr_window_open(window, width) }
+}
+
+pub fn window_push(window: &mut NoiseWindow, payload: &[u8], values: &mut [u64]) -> u8 {
+    unsafe { sys::mdr_window_push(window, payload.as_ptr(), payload.len(), values.as_mut_ptr(), values.len()) }
+}
+
+pub fn window_counts(window: &NoiseWindow, values: &mut [u64]) -> u8 {
+    unsafe { sys::mdr_window_counts(window, values.as_mut_ptr(), values.len()) }
 }
 
 pub fn house_plan(plan: &mut [u8; 512]) {

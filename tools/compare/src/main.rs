@@ -9,6 +9,7 @@ mod lines;
 mod ranges;
 mod readings;
 mod sessions;
+mod windows;
 
 use case::{Run, Tally};
 use common::choice::Choice;
@@ -37,6 +38,7 @@ fn main() {
     sessions::exhaustive(&mut run);
     lines::exhaustive(&mut run);
     bills::exhaustive(&mut run);
+    windows::exhaustive(&mut run);
     println!("{} of them exhaustive, after {} s", run.tally.total(), start.elapsed().as_secs());
 
     let mut c = Choice::new(seed);
@@ -59,6 +61,7 @@ fn main() {
             sessions::random(&mut run, &mut c);
         }
         alike::random(&mut run, &mut c);
+        windows::random(&mut run, &mut c);
     }
     run.tally.print();
     println!("no difference, seed {seed}, {} s", start.elapsed().as_secs());

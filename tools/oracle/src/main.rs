@@ -1,4 +1,5 @@
-//! Prints the case lists of the replay programs, of `inlog`, of `tally` and of `bill`, and the answers that the Rust original gives.
+//! Prints the case lists of the replay programs, of `inlog`, of `tally`, of `bill` and of `modes`, and the answers that the Rust original
+//! gives.
 mod again;
 mod bill_program;
 mod bills;
@@ -7,10 +8,12 @@ mod frames;
 mod inlog;
 mod lines;
 mod logs;
+mod modes;
 mod payloads;
 mod scanners;
 mod tally;
 mod text;
+mod windows;
 
 use std::io::Write;
 
@@ -27,6 +30,8 @@ fn main() {
         Some("tally") => tally::list(),
         Some("bill") => bytes(bills::list()),
         Some("bill_program") => bill_program::list(),
+        Some("window") => bytes(windows::list()),
+        Some("modes") => modes::list(),
         _ => usage(),
     };
     let printed = match words.get(1).map(String::as_str) {
@@ -42,6 +47,6 @@ fn bytes(list: text::List) -> (Vec<u8>, Vec<u8>) {
 }
 
 fn usage() -> ! {
-    eprintln!("usage: oracle frame|scanner|payload|log|lines|again|inlog|tally|bill|bill_program cases|answers");
+    eprintln!("usage: oracle frame|scanner|payload|log|lines|again|inlog|tally|bill|bill_program|window|modes cases|answers");
     std::process::exit(2)
 }

@@ -1,0 +1,2 @@
+pub mod LawsWindow
+pub mod CasesWindow

@@ -1,0 +1,2 @@
+pub mod LastReports
+pub mod Window

@@ -1,0 +1,2 @@
+pub mod LawsWindowLine
+pub mod Shown
