@@ -45,12 +45,13 @@ enum mdr_refusal {
     MDR_TOO_FEW_RECORDS = 20,
     MDR_NO_SUCH_DEVICE = 21,
     MDR_STEP_ZERO = 22,
-    MDR_NOT_TEXT = 23,         /* a setting's name or summary is not UTF-8 */
-    MDR_NOT_A_LINE = 24,       /* none of the four forms of a log's line */
-    MDR_WRONG_KIND = 25,       /* a payload of fewer than 2 bytes, or of a kind that the decoder does not serve */
-    MDR_WRONG_LENGTH = 26,     /* a served kind whose bytes run out, are too many, or do not match a count */
-    MDR_COUNT_FULL = 27,       /* a count of the scanner's would pass 18446744073709551615 */
-    MDR_BILL_OUT_OF_RANGE = 28 /* a tax above 1000, or a line count above 4294967295 */
+    MDR_NOT_TEXT = 23,          /* a setting's name or summary is not UTF-8 */
+    MDR_NOT_A_LINE = 24,        /* none of the four forms of a log's line */
+    MDR_WRONG_KIND = 25,        /* a payload of fewer than 2 bytes, or of a kind that the decoder does not serve */
+    MDR_WRONG_LENGTH = 26,      /* a served kind whose bytes run out, are too many, or do not match a count */
+    MDR_COUNT_FULL = 27,        /* a count of the scanner's would pass 18446744073709551615 */
+    MDR_BILL_OUT_OF_RANGE = 28, /* a tax above 1000, or a line count above 4294967295 */
+    MDR_LEVEL_TOO_HIGH = 29     /* a battery level above 100 */
 };
 
 /* ---- frames ---- */
@@ -148,7 +149,8 @@ uint8_t mdr_seek(const uint8_t *bytes, size_t bytes_len, uint64_t *values, size_
 uint8_t mdr_message(const uint8_t *payload, size_t payload_len, uint64_t *values, size_t values_len);
 
 /* [level or 256, charging, threshold or 256] for each of main, left, right and case, so 12 numbers. An absent cell is [256, 256, 256].
- * Charging: 0 no, 1 yes, 2 unknown, 3 charged, 256 and the byte added for any other. Each kind has one length. Refused (25, 26). */
+ * Charging: 0 no, 1 yes, 2 unknown, 3 charged, 256 and the byte added for any other. Each kind has one length. Refused (25, 26), then by
+ * 29 where a level is above 100; thresholds are not levels. */
 uint8_t mdr_battery(const uint8_t *payload, size_t payload_len, uint64_t *values, size_t values_len);
 
 /* [mode, mode byte or 256, ambient level or 256, focus on voice or 2, settled, adaptive or 2, sensitivity or 256].
@@ -277,7 +279,8 @@ uint8_t mdr_all_lines(struct mdr_scanner *scanner, uint8_t *store, size_t store_
  * line's first byte. Of an 'R' line [letter, number of the refusal, 0, 0, 256]. The command is told of an 'H' line alone; of an 'S' or 'F'
  * line the payload comes to stand at the front of `out`, and the bytes behind stay. Of 'R' and 'H' all of `out` stays. Where the
  * plan's entry is 5, mdr_line writes 4294967295 for the length in an 'H' line. An 'S' line with name lengths and a `*` for each byte of a
- * name, as an earlier library wrote it, is read as the frame that it holds.
+ * name, as an earlier library wrote it, is read as the frame that it holds, and so is an 'F' line of a battery with a level above 100, whose
+ * payload mdr_battery refuses.
  *
  * Refused by 24 unless the line is a letter, a space, digits in capitals and a newline, and no more, and the digits are: for 'R' 08 or 12
  * to 16; for 'H' type, sequence, a length of four bytes, and a command exactly where the length is not 0; for 'S' and 'F' a frame that

@@ -41,6 +41,8 @@ pub enum Refusal {
     CountFull,
     /// a tax above 1000, or a line count above 4294967295
     BillOutOfRange,
+    /// a battery level above 100
+    LevelTooHigh,
     /// a status of a later library, which this crate has no name for
     Unlisted(u8),
 }
@@ -78,6 +80,7 @@ impl Refusal {
             26 => Refusal::WrongLength,
             27 => Refusal::CountFull,
             28 => Refusal::BillOutOfRange,
+            29 => Refusal::LevelTooHigh,
             other => Refusal::Unlisted(other),
         }
     }
@@ -113,6 +116,7 @@ impl Refusal {
             Refusal::WrongLength => 26,
             Refusal::CountFull => 27,
             Refusal::BillOutOfRange => 28,
+            Refusal::LevelTooHigh => 29,
             Refusal::Unlisted(number) => number,
         }
     }
@@ -153,6 +157,7 @@ impl std::fmt::Display for Refusal {
             Refusal::WrongLength => write!(f, "the payload is shorter or longer than its kind and its counts say"),
             Refusal::CountFull => write!(f, "a count of bytes would pass 18446744073709551615"),
             Refusal::BillOutOfRange => write!(f, "the tax is above 1000, or a line count above 4294967295"),
+            Refusal::LevelTooHigh => write!(f, "a battery level is above 100"),
             Refusal::Unlisted(number) => write!(f, "refused by {number}, for which there is no name here"),
         }
     }
@@ -531,6 +536,7 @@ pub enum Charging {
 
 #[derive(Clone, Copy, Debug, PartialEq, Eq)]
 pub struct Cell {
+    /// 0 to 100
     pub level: u8,
     pub charging: Charging,
     pub threshold: Option<u8>,
@@ -555,7 +561,8 @@ fn cell(v: &[u64]) -> Option<Cell> {
     Some(Cell { level: byte(v[0])?, charging, threshold: byte(v[2]) })
 }
 
-/// Refused by `WrongKind`, then by `WrongLength` where the payload does not have the length of its kind.
+/// Refused by `WrongKind`, then by `WrongLength` where the payload does not have the length of its kind, then by `LevelTooHigh` where a level
+/// is above 100. Thresholds are not levels.
 pub fn battery(payload: &[u8]) -> Result<Battery, Refusal> {
     let v: [u64; 12] = told(|v, n| unsafe { sys::mdr_battery(payload.as_ptr(), payload.len(), v, n) })?;
     Ok(Battery { main: cell(&v[0..3]), left: cell(&v[3..6]), right: cell(&v[6..9]), case: cell(&v[9..12]) })

@@ -94,8 +94,10 @@ fn refusals() {
     assert_eq!(Refusal::CountFull.to_string(), "a count of bytes would pass 18446744073709551615");
     assert_eq!(Refusal::BillOutOfRange.number(), 28);
     assert_eq!(Refusal::BillOutOfRange.to_string(), "the tax is above 1000, or a line count above 4294967295");
-    assert_eq!(Refusal::Unlisted(29).number(), 29);
-    assert_eq!(Refusal::Unlisted(29).to_string(), "refused by 29, for which there is no name here");
+    assert_eq!(Refusal::LevelTooHigh.number(), 29);
+    assert_eq!(Refusal::LevelTooHigh.to_string(), "a battery level is above 100");
+    assert_eq!(Refusal::Unlisted(30).number(), 30);
+    assert_eq!(Refusal::Unlisted(30).to_string(), "refused by 30, for which there is no name here");
 }
 
 #[test]
@@ -528,6 +530,89 @@ fn fixed_readings() {
     assert_eq!(general_setting(&[0xD7, 0xD1, 0x00, 0x01]), Ok(GeneralSetting { slot: 0xD1, enabled: false }));
 }
 
+/// A battery of each kind with 0 everywhere, and the places of its levels.
+const BATTERIES: [(&[u8], &[usize]); 6] = [
+    (&[0x23, 0x00, 0, 0], &[2]),
+    (&[0x23, 0x01, 0, 0, 0, 0], &[2, 4]),
+    (&[0x23, 0x02, 0, 0], &[2]),
+    (&[0x23, 0x08, 0, 0, 0], &[2]),
+    (&[0x23, 0x09, 0, 0, 0, 0, 0, 0], &[2, 4]),
+    (&[0x23, 0x0A, 0, 0, 0], &[2]),
+];
+
+fn levels(b: &Battery) -> Vec<u8> {
+    [b.main, b.left, b.right, b.case].iter().flatten().map(|cell| cell.level).collect()
+}
+
+#[test]
+fn battery_levels() {
+    for (plain, places) in BATTERIES {
+        for &place in places {
+            for level in 0..=255 {
+                let mut payload = plain.to_vec();
+                payload[place] = level;
+                let read = battery(&payload);
+                if level > 100 {
+                    assert_eq!(read, Err(Refusal::LevelTooHigh), "{payload:02X?}");
+                } else {
+                    let told: Vec<u8> = places.iter().map(|&at| payload[at]).collect();
+                    assert_eq!(levels(&read.unwrap()), told);
+                }
+                // Another length is found before a level, another kind before both.
+                assert_eq!(battery(&payload[..payload.len() - 1]), Err(Refusal::WrongLength));
+                assert_eq!(battery(&[&payload[..], &[0]].concat()), Err(Refusal::WrongLength));
+                payload[1] = 0x03;
+                assert_eq!(battery(&payload), Err(Refusal::WrongKind));
+            }
+        }
+        // Charging bytes and thresholds are no levels.
+        for at in (2..plain.len()).filter(|at| !places.contains(at)) {
+            for byte in [100, 101, 255] {
+                let mut payload = plain.to_vec();
+                payload[at] = byte;
+                for &place in places {
+                    payload[place] = 100;
+                }
+                assert_eq!(levels(&battery(&payload).unwrap()), vec![100; places.len()]);
+            }
+        }
+    }
+    let case = Some(Cell { level: 100, charging: Charging::Other(255), threshold: Some(255) });
+    assert_eq!(battery(&[0x25, 0x0A, 100, 255, 255]), Ok(Battery { main: None, left: None, right: None, case }));
+    for payload in [[0x23, 0x01, 255, 0, 100, 0], [0x23, 0x01, 100, 0, 255, 0], [0x23, 0x01, 101, 0, 101, 0]] {
+        assert_eq!(battery(&payload).unwrap_err().number(), 29);
+    }
+}
+
+/// A battery with a level above 100 leaves its head in the log. A stored line that has it whole reads back, and its payload is refused.
+#[test]
+fn high_levels_in_logs() {
+    assert_eq!(log_of(&[(DataType::DataMdr, &[0x23, 0x00, 100, 1])], 5), "F 3E0C010000000423006401993C\n");
+    for (plain, places) in BATTERIES {
+        for &place in places {
+            for level in [101, 255] {
+                let mut payload = plain.to_vec();
+                payload[place] = level;
+                let head = format!("H 0C01{:08X}23\n", payload.len());
+                assert_eq!(log_of(&[(DataType::DataMdr, &payload)], 5), head);
+            }
+        }
+    }
+    let stored = b"F 3E0C00000000042300FF01333C\n";
+    let payload: &[u8] = &[0x23, 0x00, 0xFF, 0x01];
+    let mut out = [0xEE; 8];
+    let frame = Unpacked { data_type: DataType::DataMdr, seq: 0, payload };
+    assert_eq!(read_line(stored, &mut out), Ok(LineRead::Full(frame)));
+    assert_eq!(out, [0x23, 0x00, 0xFF, 0x01, 0xEE, 0xEE, 0xEE, 0xEE]);
+    assert_eq!(battery(&out[..4]), Err(Refusal::LevelTooHigh));
+    assert_eq!(count_text(stored), Ok(lines_of(1, 0, 0, 0)));
+    assert_eq!(bill_text(stored, 0), Ok(Bill { net: 4, total: 4 }));
+    let mut packed = [0; 16];
+    let len = pack(DataType::DataMdr, 0, payload, &mut packed).unwrap();
+    let digits: String = packed[..len].iter().map(|b| format!("{b:02X}")).collect();
+    assert_eq!(format!("F {digits}\n").as_bytes(), stored);
+}
+
 /// Reports of each mode, with a level and without; two payloads are none.
 const REPORTS: [&[u8]; 7] = [
     &[0x67, 0x15, 0x01, 0x00, 0x00, 0x00, 0x05],
@@ -817,13 +902,17 @@ fn refused(call: impl Fn(&[u8]) -> Option<Refusal>, payloads: &[(&[u8], Refusal)
 
 #[test]
 fn causes_of_fixed_readings() {
-    use Refusal::{OtherMessage, WrongKind, WrongLength};
+    use Refusal::{LevelTooHigh, OtherMessage, WrongKind, WrongLength};
     let payloads: &[(&[u8], Refusal)] = &[
         (&[0x23, 0x03, 0x50, 0x01], WrongKind),
+        (&[0x23, 0x03, 0xFF, 0x01], WrongKind),
         (&[0x23, 0x00], WrongLength),
         (&[0x23, 0x00, 0x50], WrongLength),
         (&[0x23, 0x00, 0x50, 0x01, 0x1E], WrongLength),
+        (&[0x23, 0x00, 0xFF], WrongLength),
+        (&[0x23, 0x00, 0xFF, 0x01, 0x1E], WrongLength),
         (&[0x23, 0x09, 1, 0, 2, 7, 3], WrongLength),
+        (&[0x23, 0x00, 0x65, 0x01], LevelTooHigh),
     ];
     refused(|p| battery(p).err(), payloads);
     let payloads: &[(&[u8], Refusal)] = &[

@@ -31,6 +31,7 @@ pub enum Refusal {
     WrongLength,
     CountFull,
     BillOutOfRange,
+    LevelTooHigh,
 }
 
 impl Refusal {
@@ -73,6 +74,7 @@ impl Refusal {
             Refusal::WrongLength => 26,
             Refusal::CountFull => 27,
             Refusal::BillOutOfRange => 28,
+            Refusal::LevelTooHigh => 29,
         }
     }
 }

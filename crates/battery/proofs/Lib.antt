@@ -1,1 +1,2 @@
+pub mod LawsBattery
 pub mod Cases

@@ -4,7 +4,10 @@ use reading::OptionByte;
 ghost use mathlib.Core.Path.{_≡_};
 ghost use Prim.Native.Nat.{_+_, _<_};
 ghost use lib.ListN.{length};
-ghost use Rattle.battery.specs.Battery.{batteryTold, batteryOf, chargingOf, cellAt, mainOnly, sides, caseOnly};
+ghost use Rattle.battery.specs.Battery.{batteryTold, batteryOf, chargingOf, cellAt, levelsTried, mainOnly, sides, caseOnly};
+
+// A headset that is starting may send more, which is no level.
+const HIGHEST_LEVEL: u8 = 100;
 
 pub enum Charging {
     No,
@@ -66,36 +69,52 @@ fn cell_at(payload: &[u8], at: usize, threshold: OptionByte) -> OptionCell
     })
 }
 
-fn main_only(main: OptionCell) -> BatteryAnswer
-    ensures { λ r. ⌜ batteryTold r ≡ mainOnly main ⌝ }
+fn main_only(payload: &[u8], threshold: OptionByte) -> BatteryAnswer
+    requires { ⌜ 3 < length (now payload) ⌝ }
+    ensures { λ r. ⌜ batteryTold r ≡ levelsTried (mainOnly (cellAt (now (payload .entry)) 0 threshold)) ⌝ }
 {
+    let main = payload[2];
+    if main > HIGHEST_LEVEL {
+        return BatteryAnswer::Refused(Refusal::LevelTooHigh);
+    }
     BatteryAnswer::Report(BatteryReport {
-        main,
+        main: cell_at(payload, 0, threshold),
         left: OptionCell::Absent,
         right: OptionCell::Absent,
         case: OptionCell::Absent,
     })
 }
 
-fn sides(left: OptionCell, right: OptionCell) -> BatteryAnswer
-    ensures { λ r. ⌜ batteryTold r ≡ sides left right ⌝ }
+fn sides(payload: &[u8], left_threshold: OptionByte, right_threshold: OptionByte) -> BatteryAnswer
+    requires { ⌜ 5 < length (now payload) ⌝ }
+    ensures { λ r. ⌜ batteryTold r ≡ levelsTried (sides (cellAt (now (payload .entry)) 0 «left_threshold») (cellAt (now (payload .entry)) 2 «right_threshold»)) ⌝ }
 {
+    let left = payload[2];
+    let right = payload[4];
+    if left > HIGHEST_LEVEL || right > HIGHEST_LEVEL {
+        return BatteryAnswer::Refused(Refusal::LevelTooHigh);
+    }
     BatteryAnswer::Report(BatteryReport {
         main: OptionCell::Absent,
-        left,
-        right,
+        left: cell_at(payload, 0, left_threshold),
+        right: cell_at(payload, 2, right_threshold),
         case: OptionCell::Absent,
     })
 }
 
-fn case_only(case: OptionCell) -> BatteryAnswer
-    ensures { λ r. ⌜ batteryTold r ≡ caseOnly case ⌝ }
+fn case_only(payload: &[u8], threshold: OptionByte) -> BatteryAnswer
+    requires { ⌜ 3 < length (now payload) ⌝ }
+    ensures { λ r. ⌜ batteryTold r ≡ levelsTried (caseOnly (cellAt (now (payload .entry)) 0 threshold)) ⌝ }
 {
+    let case = payload[2];
+    if case > HIGHEST_LEVEL {
+        return BatteryAnswer::Refused(Refusal::LevelTooHigh);
+    }
     BatteryAnswer::Report(BatteryReport {
         main: OptionCell::Absent,
         left: OptionCell::Absent,
         right: OptionCell::Absent,
-        case,
+        case: cell_at(payload, 0, threshold),
     })
 }
 
@@ -112,41 +131,39 @@ pub fn decode_battery(payload: &[u8]) -> BatteryAnswer
             if len != 4 {
                 return BatteryAnswer::Refused(Refusal::WrongLength);
             }
-            return main_only(cell_at(payload, 0, OptionByte::NoByte));
+            return main_only(payload, OptionByte::NoByte);
         }
         0x01 => {
             if len != 6 {
                 return BatteryAnswer::Refused(Refusal::WrongLength);
             }
-            let left = cell_at(payload, 0, OptionByte::NoByte);
-            let right = cell_at(payload, 2, OptionByte::NoByte);
-            return sides(left, right);
+            return sides(payload, OptionByte::NoByte, OptionByte::NoByte);
         }
         0x02 => {
             if len != 4 {
                 return BatteryAnswer::Refused(Refusal::WrongLength);
             }
-            return case_only(cell_at(payload, 0, OptionByte::NoByte));
+            return case_only(payload, OptionByte::NoByte);
         }
         0x08 => {
             if len != 5 {
                 return BatteryAnswer::Refused(Refusal::WrongLength);
             }
-            return main_only(cell_at(payload, 0, OptionByte::Byte(payload[4])));
+            return main_only(payload, OptionByte::Byte(payload[4]));
         }
         0x09 => {
             if len != 8 {
                 return BatteryAnswer::Refused(Refusal::WrongLength);
             }
-            let left = cell_at(payload, 0, OptionByte::Byte(payload[6]));
-            let right = cell_at(payload, 2, OptionByte::Byte(payload[7]));
-            return sides(left, right);
+            let left_threshold = OptionByte::Byte(payload[6]);
+            let right_threshold = OptionByte::Byte(payload[7]);
+            return sides(payload, left_threshold, right_threshold);
         }
         0x0A => {
             if len != 5 {
                 return BatteryAnswer::Refused(Refusal::WrongLength);
             }
-            return case_only(cell_at(payload, 0, OptionByte::Byte(payload[4])));
+            return case_only(payload, OptionByte::Byte(payload[4]));
         }
         _ => BatteryAnswer::Refused(Refusal::WrongKind),
     }

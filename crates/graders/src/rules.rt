@@ -1,5 +1,6 @@
 // Why something is refused: the number as the log prints it, and the rule in words.
 use crate::say::byte;
+use crate::say::byte_at;
 use crate::say::number;
 use crate::say::say;
 use frame::Refusal;
@@ -49,6 +50,7 @@ pub fn rule(r: Refusal) {
         Refusal::WrongLength => say(b"the bytes run out, are too many or do not match the count"),
         Refusal::CountFull => say(b"a count of bytes would pass 18446744073709551615"),
         Refusal::BillOutOfRange => say(b"a tax above 1000 or a line count above 4294967295"),
+        Refusal::LevelTooHigh => say(b"a battery level above 100"),
     }
 }
 
@@ -57,6 +59,7 @@ pub fn cause(r: Refusal, payload: &[u8]) {
     match r {
         Refusal::WrongKind => other_kind(payload),
         Refusal::WrongLength => other_length(payload),
+        Refusal::LevelTooHigh => high_level(payload),
         _ => rule(r),
     }
 }
@@ -74,6 +77,19 @@ fn other_length(payload: &[u8]) {
     say(b"the ");
     number(payload.len());
     say(b" bytes of the payload run out, are too many or do not match the count");
+}
+
+// A second level is looked at only where the first is not above 100, and then it is there.
+fn high_level(payload: &[u8]) {
+    let first = byte_at(payload, 2);
+    let level = if first > 100 {
+        first
+    } else {
+        byte_at(payload, 4)
+    };
+    say(b"the level ");
+    number(level as usize);
+    say(b" is above 100");
 }
 
 fn escapee(b: u8) {

@@ -7,7 +7,7 @@ use native.Mathlib.Omega.{arith}
 use lib.Dec.{eqb, ltb}
 use lib.ListN.{length, getD, length-append, List·getD-append}
 use borrow.Author.Tests.{eqb-true, eqb-false, eq-eqb, ne-eqb, ltb-true, ltb-false, lt-ltb, le-ltb}
-use Rattle.base.specs.Outcome.{Outcome, accepted, refused, pick, onAccepted}
+use Rattle.base.specs.Outcome.{Outcome, accepted, refused, pick, onAccepted, andThen}
 use Rattle.reading.specs.Message.{kindOf}
 use Rattle.reading.specs.Items.{Size, Items, fixed, counted, itemAt, lengthBy}
 use Rattle.reading.specs.Reading.{readingOf, countReading, Layout, layout, noLayout, byKind, layoutReading}
@@ -80,6 +80,9 @@ whole-accepted a = record { kind = λ e. let z : _≡_ {A = ℕ} 0 1 = cc in abs
 
 pub whole-19 : {A : Type 0} → Whole {A = A} (refused 19 [])
 whole-19 = record { kind = λ e. let z : _≡_ {A = ℕ} 19 25 = cc in absurd (omega arith); length = λ e. let z : _≡_ {A = ℕ} 19 26 = cc in absurd (omega arith) }
+
+pub whole-29 : {A : Type 0} → Whole {A = A} (refused 29 [])
+whole-29 = record { kind = λ e. let z : _≡_ {A = ℕ} 29 25 = cc in absurd (omega arith); length = λ e. let z : _≡_ {A = ℕ} 29 26 = cc in absurd (omega arith) }
 
 pub whole-pick : {A : Type 0} (t : Bool) {o q : Outcome A} → Whole o → Whole q → Whole (pick t o q)
 whole-pick true w v = w
@@ -163,6 +166,32 @@ module _ {A : Type 0} (serves : ℕ → Bool) (items : List ℕ → Items) (cont
 
 pub layout-length : {A : Type 0} (layouts : ℕ → Layout A) → OneLength (layoutReading layouts)
 layout-length layouts = one-length _ _ _ (steady-kind (λ k. layouts k .len))
+
+-- a reading, and behind it a test that gives neither 25 nor 26
+module _ {A B : Type 0} (test : A → Outcome B) (whole : (a : A) → Whole (test a)) where
+  was-whole : (o : Outcome A) → Whole (andThen test o) → Whole o
+  was-whole (accepted a) w = whole-accepted a
+  was-whole (refused n vs) w = record { kind = λ e. w .kind (ap (andThen test) e); length = λ e. w .length (ap (andThen test) e) }
+
+  was-25 : (o : Outcome A) → andThen test o ≡ refused 25 [] → o ≡ refused 25 []
+  was-25 (accepted a) e = absurd (whole a .kind e)
+  was-25 (refused n vs) e = let a : n ≡ 25 = cc in let b : vs ≡ [] = cc in rw (a, b)
+
+  was-26 : (o : Outcome A) → andThen test o ≡ refused 26 [] → o ≡ refused 26 []
+  was-26 (accepted a) e = absurd (whole a .length e)
+  was-26 (refused n vs) e = let a : n ≡ 26 = cc in let b : vs ≡ [] = cc in rw (a, b)
+
+  pub then-causes : {serves : ℕ → Bool} {items : List ℕ → Items} {reading : List ℕ → Outcome A} → Causes serves items reading → Causes serves items (λ p. andThen test (reading p))
+  then-causes {reading = reading} c = record {
+    kind-alone = λ p h. c .kind-alone p (was-25 (reading p) h);
+    length-alone = λ p h. c .length-alone p (was-26 (reading p) h);
+  }
+
+  pub then-length : {reading : List ℕ → Outcome A} → OneLength reading → OneLength (λ p. andThen test (reading p))
+  then-length {reading} l = record {
+    too-many = λ p r w n. ap (andThen test) (l .too-many p r (was-whole (reading p) w) n);
+    run-out = λ p r w long n. ap (andThen test) (l .run-out p r (was-whole (reading (p ++ r)) w) long n);
+  }
 
 -- a layout whose contents are whole where its kind is served
 pub record WholeLayout {A : Type 0} (l : Layout A) : Type 0 where

@@ -1,4 +1,5 @@
 //! Payloads that the decoders accept, frames around them, and damage.
+use crate::causes::{BATTERY, MOST_LEVEL, level_places};
 use crate::choice::Choice;
 use original::mdr::DataType;
 use original::mdr::frame;
@@ -63,14 +64,52 @@ fn value(c: &mut Choice, usual: &[u8]) -> u8 {
     if c.one_in(8) { c.byte() } else { c.of(usual) }
 }
 
-pub fn battery(c: &mut Choice, command: u8) -> Vec<u8> {
-    let (kind, len) = c.of(&[(0x00, 4), (0x01, 6), (0x02, 4), (0x08, 5), (0x09, 8), (0x0A, 5)]);
+/// A battery whose levels are made of the bytes that were chosen for them.
+fn battery_by(c: &mut Choice, command: u8, level: fn(u8) -> u8) -> Vec<u8> {
+    let (kind, len) = c.of(&BATTERY);
     let mut p = vec![command, kind];
     for i in 2..len {
-        let level = i % 2 == 0;
-        p.push(if level { value(c, &[0, 30, 60, 61, 62, 80, 100]) } else { value(c, &[0, 1, 2, 3]) });
+        let even = i % 2 == 0;
+        p.push(if even { value(c, &[0, 30, 60, 61, 62, 80, 100]) } else { value(c, &[0, 1, 2, 3]) });
+    }
+    for &at in level_places(kind) {
+        p[at] = level(p[at]);
     }
     p
+}
+
+/// A level of up to 100; of a byte above it one that is not escaped either, so that the payload stays as long on the wire.
+fn level(b: u8) -> u8 {
+    if b > MOST_LEVEL { b / 5 } else { b }
+}
+
+/// What the decoder accepts: levels of up to 100, any threshold.
+pub fn battery(c: &mut Choice, command: u8) -> Vec<u8> {
+    battery_by(c, command, level)
+}
+
+/// What a headset sends: a level in 128 is 255, as while it starts.
+pub fn sent_battery(c: &mut Choice, command: u8) -> Vec<u8> {
+    battery_by(c, command, |b| if b >= 240 { 255 } else { level(b) })
+}
+
+/// A battery for every level in every cell of every layout, and that level. Another cell has one of up to 100; charging bytes and
+/// thresholds take every value.
+pub fn every_level(command: u8) -> Vec<(u8, Vec<u8>)> {
+    let mut all = vec![];
+    for (kind, len) in BATTERY {
+        for &cell in level_places(kind) {
+            for b in 0..=255u8 {
+                let mut p = vec![command, kind];
+                p.extend((2..len).map(|at| b.wrapping_mul(7).wrapping_add(at as u8)));
+                for &at in level_places(kind) {
+                    p[at] = if at == cell { b } else { b.min(MOST_LEVEL) };
+                }
+                all.push((b, p));
+            }
+        }
+    }
+    all
 }
 
 pub fn noise(c: &mut Choice, command: u8) -> Vec<u8> {

@@ -1,7 +1,7 @@
 //! Long streams, as a headset's link might carry them.
 use crate::choice::Choice;
 use crate::frames::{
-    END, START, accepted, battery, capability, damage, equalizer, framed, name, noise, paired, setting, setting_info, support,
+    END, START, accepted, capability, damage, equalizer, framed, name, noise, paired, sent_battery, setting, setting_info, support,
 };
 
 #[derive(Clone, Copy, Debug, PartialEq)]
@@ -48,7 +48,7 @@ pub fn stream(kind: Kind, seed: u64, len: usize) -> Vec<u8> {
 /// A frame of a session, with its acknowledgement.
 fn session(c: &mut Choice, seq: u8, out: &mut Vec<u8>) {
     let (data_type, payload) = match c.below(100) {
-        0..20 => (0x0C, battery(c, either(seq, 0x23, 0x25))),
+        0..20 => (0x0C, sent_battery(c, either(seq, 0x23, 0x25))),
         20..42 => (0x0C, noise(c, either(seq, 0x67, 0x69))),
         42..46 => (0x0C, capability(c, 0x61)),
         46..56 => (0x0C, equalizer(c, either(seq, 0x57, 0x59))),
@@ -101,7 +101,7 @@ fn small(c: &mut Choice, seq: u8, out: &mut Vec<u8>) {
     match c.below(3) {
         0 => out.extend(framed(0x01, seq, &[])),
         1 => out.extend(framed(0x0C, seq, &setting(c, 0xD7))),
-        _ => out.extend(framed(0x0C, seq, &battery(c, 0x23))),
+        _ => out.extend(framed(0x0C, seq, &sent_battery(c, 0x23))),
     }
 }
 

@@ -4,6 +4,7 @@ use crate::case::{Case, Run, Tally, fewer, fewer_in_frame, hex};
 use crate::inputs::content;
 use crate::lines::span_of;
 use crate::sessions::part;
+use common::causes::{BATTERY, level_places};
 use common::choice::Choice;
 use common::frames::{END, SENTRY, START, body, damage, escaped, framed, house_plan};
 use common::log::{Log, reading};
@@ -317,6 +318,16 @@ fn refused(c: &mut Choice, plan: &[u8], data_type: u8, command: u8) -> Vec<u8> {
     }
 }
 
+/// A battery of this length, of any of its kinds, with a level above 100.
+fn too_high(c: &mut Choice, command: u8, len: usize) -> Vec<u8> {
+    let kinds: Vec<u8> = BATTERY.into_iter().filter(|layout| layout.1 == len).map(|layout| layout.0).collect();
+    let kind = c.of(&kinds);
+    let mut p = content(c, len);
+    (p[0], p[1]) = (command, kind);
+    p[c.of(level_places(kind))] = c.between(101, 255) as u8;
+    p
+}
+
 /// A body with a false checksum.
 fn false_sum(c: &mut Choice) -> Vec<u8> {
     let n = c.below(40);
@@ -326,10 +337,10 @@ fn false_sum(c: &mut Choice) -> Vec<u8> {
     escaped(&body)
 }
 
-fn place(c: &mut Choice, plan: &[u8], lists: &[(u8, u8)]) -> Place {
+fn place(c: &mut Choice, plan: &[u8], lists: &[(u8, u8)], batteries: &[(u8, u8)]) -> Place {
     let (data_type, command) = c.of(lists);
     let seq = c.byte();
-    match c.below(12) {
+    match c.below(13) {
         0..5 => Place::Lists { data_type, seq, command, devices: devices(c), last: c.byte() },
         5..8 => Place::Spans([0; 2].map(|_| framed(data_type, seq, &refused(c, plan, data_type, command)))),
         8 => Place::Spans([0; 2].map(|_| false_sum(c))),
@@ -337,6 +348,11 @@ fn place(c: &mut Choice, plan: &[u8], lists: &[(u8, u8)]) -> Place {
             // Of no plan: the length shows, and the first byte.
             let (data_type, n) = (c.of(&[0x00, 0x01, 0x0D, 0x1E, SENTRY]), c.below(60));
             Place::Spans([0; 2].map(|_| framed(data_type, seq, &[&[command], &content(c, n)[..]].concat())))
+        }
+        10 => {
+            // The length shows, and the command; the kind does not, nor a level.
+            let ((data_type, command), len) = (c.of(batteries), c.of(&BATTERY).1);
+            Place::Spans([0; 2].map(|_| framed(data_type, seq, &too_high(c, command, len))))
         }
         _ => {
             let mut span = span_of(&part(c));
@@ -358,9 +374,12 @@ fn way(c: &mut Choice, longest: usize) -> Way {
 
 pub fn random(run: &mut Run, c: &mut Choice) {
     let mut plan = if c.one_in(3) { (0..512).map(|_| c.below(9) as u8).collect() } else { house_plan() };
-    plan[256 + 0x37] = 5;
-    let lists: Vec<(u8, u8)> = (0..512).filter(|&i| plan[i] == 5).map(|i| (if i < 256 { 0x0C } else { 0x0E }, i as u8)).collect();
-    let places: Vec<Place> = (0..c.below(10)).map(|_| place(c, &plan, &lists)).collect();
+    (plan[256 + 0x37], plan[0x23]) = (5, 1);
+    let [lists, batteries] = [5, 1].map(|entry| {
+        let places = (0..512).filter(|&i| plan[i] == entry);
+        places.map(|i| (if i < 256 { 0x0C } else { 0x0E }, i as u8)).collect::<Vec<(u8, u8)>>()
+    });
+    let places: Vec<Place> = (0..c.below(10)).map(|_| place(c, &plan, &lists, &batteries)).collect();
     let longest = places.iter().map(|p| p.span(0).len().max(p.span(1).len())).max().unwrap_or(0);
     let ways = [way(c, longest), way(c, longest)];
     run.case(&Alike { plan, wide: c.one_in(8), places, ways });

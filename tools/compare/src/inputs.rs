@@ -1,6 +1,7 @@
 //! Bytes to try: lengths round the boundaries, and contents that are plain, special, or plain but for a few.
+use common::causes::level_places;
 use common::choice::Choice;
-use common::frames::MARKS;
+use common::frames::{MARKS, battery};
 
 /// Powers of two, the lengths at which a block of a faster loop ends, and those that 01 and the headset's formats name.
 const SHORT_EDGES: [usize; 12] = [8, 16, 32, 48, 64, 96, 128, 192, 256, 300, 320, 512];
@@ -62,6 +63,17 @@ fn block_edge(c: &mut Choice, n: usize) -> usize {
 pub fn any(c: &mut Choice) -> Vec<u8> {
     let n = length(c);
     content(c, n)
+}
+
+/// A battery, some of its levels any byte.
+pub fn any_levels(c: &mut Choice, command: u8) -> Vec<u8> {
+    let mut bytes = battery(c, command);
+    for &at in level_places(bytes[1]) {
+        if c.one_in(2) {
+            bytes[at] = c.byte();
+        }
+    }
+    bytes
 }
 
 /// What a setting is called, by bytes that may be no text.

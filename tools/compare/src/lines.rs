@@ -4,7 +4,7 @@ use crate::framing::frame_like;
 use crate::inputs::{any, room, shortest, strings, values};
 use crate::lent::{Left, Lent, MOST_VALUES, Told, Values, left_difference, told_difference};
 use common::choice::Choice;
-use common::frames::{END, HOUSE, SENTRY, START, accepted, body, escaped, framed, house_plan};
+use common::frames::{END, HOUSE, SENTRY, START, accepted, body, escaped, every_level, framed, house_plan};
 use common::lines::{Line, bytes_of, read};
 use common::log::{Log, entry, mask, number, reading};
 use original::mdr::frame::{Frame, unescape, unpack};
@@ -31,7 +31,7 @@ fn payload(line: &Line) -> &[u8] {
     }
 }
 
-/// A span's public part, by 01 and by 02's C-15.
+/// A span's public part, by 01 and by 02's C-15 and C-20.
 fn public_part(plan: &[u8], span: &[u8]) -> Line {
     let mut f = match unpack(span) {
         Ok(f) => f,
@@ -220,6 +220,14 @@ pub fn exhaustive(run: &mut Run) {
                 run.case(&ReadLine { values, ..ReadLine::of(&line[..]) });
             }
         }
+    }
+    // Batteries of every level in every cell of every layout: what the house plan makes of them, and in full, as stored logs may have them.
+    for (level, payload) in every_level(0x23) {
+        let frame = framed(0x0C, level % 2, &payload);
+        let line = rendered(&house_plan(), &frame);
+        assert_eq!(line[0], if level <= 100 { b'F' } else { b'H' });
+        run.case(&ReadLine::of(line));
+        run.case(&ReadLine::of(line_of(b'F', &frame)));
     }
 }
 

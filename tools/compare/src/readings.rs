@@ -1,8 +1,8 @@
 //! Message split, the eight readings, the lookup of a paired device, masking and the characters of a text beside the Rust's.
 use crate::case::{Case, Run, Tally, fewer, hex};
-use crate::inputs::{any, content, room, setting_texts, shortest, strings, values};
+use crate::inputs::{any, any_levels, content, room, setting_texts, shortest, strings, values};
 use crate::lent::{Lent, MOST_VALUES, Told, Values, left_difference, told_difference};
-use common::causes::{Decoder, read};
+use common::causes::{BATTERY, Decoder, level_places, read};
 use common::choice::Choice;
 use common::frames::{accepted, damage, name, paired, support};
 use common::settings::texts;
@@ -427,6 +427,47 @@ pub fn exhaustive(run: &mut Run) {
             in_payloads(run, letter.repeat(n).as_bytes());
         }
     }
+    levels(run);
+}
+
+/// Batteries: every level in every cell of every layout, of two cells each with every other; every charging byte and threshold beside levels
+/// round the bound; levels of 255 with every kind and every length up to 12; and every number of values.
+fn levels(run: &mut Run) {
+    let mut c = Choice::new(8);
+    let every: Vec<u8> = (0..=255).collect();
+    for (kind, len) in BATTERY {
+        let places = level_places(kind);
+        let mut battery = |levels: &[u8]| {
+            let mut bytes = c.bytes(len);
+            bytes[1] = kind;
+            for (&at, &level) in places.iter().zip(levels) {
+                bytes[at] = level;
+            }
+            bytes
+        };
+        for levels in strings(&every, places.len()) {
+            run.case(&Payload::of(Call::Battery, battery(&levels)));
+        }
+        for levels in strings(&[0, 99, 100, 101, 255], places.len()) {
+            for at in (2..len).filter(|at| !places.contains(at)) {
+                for b in 0..=255 {
+                    let mut bytes = battery(&levels);
+                    bytes[at] = b;
+                    run.case(&Payload::of(Call::Battery, bytes));
+                }
+            }
+            for values in 0..=MOST_VALUES {
+                run.case(&Payload { values, ..Payload::of(Call::Battery, battery(&levels)) });
+            }
+        }
+    }
+    for kind in 0..=255 {
+        for n in 2..=12 {
+            let mut bytes = vec![255; n];
+            bytes[1] = kind;
+            run.case(&Payload::of(Call::Battery, bytes));
+        }
+    }
 }
 
 /// These bytes as a device's name; as a setting's name, and as its summary; and in a payload that has another form, which is found first.
@@ -457,6 +498,7 @@ pub fn random(run: &mut Run, c: &mut Choice) {
     let case = Payload { call, bytes, index, values: values(c), table: c.below(4) as u8, room: room(c) };
     run.case(&case);
     match entry {
+        1 => run.case(&Payload { call: Call::Battery, bytes: any_levels(c, 0x23), ..case }),
         5 => {
             run.case(&Payload { call: Call::PairedDevice, ..case.clone() });
             run.case(&Payload { call: Call::MaskPaired, ..case });

@@ -1,10 +1,10 @@
 //! Sessions of a scanner beside the Rust's `Scanner`, and their line calls beside the log over its `unpack` and decoders.
 use crate::case::{Case, Run, Tally, fewer, fewer_in_frame, hex};
-use crate::inputs::{any, content, room, setting_texts, strings, values};
+use crate::inputs::{any, any_levels, content, room, setting_texts, strings, values};
 use crate::lent::{Left, Lent, MOST_VALUES, Told, Values, left_difference, told_difference};
 use crate::ranges::is_plan;
 use common::choice::Choice;
-use common::frames::{END, HOUSE, MARKS, START, accepted, damage, framed, house_plan, name, paired};
+use common::frames::{END, HOUSE, MARKS, START, accepted, damage, every_level, framed, house_plan, name, paired};
 use common::log::Log;
 use original::mdr::frame_any::{LIMIT, Scanner};
 
@@ -579,6 +579,18 @@ pub fn exhaustive(run: &mut Run) {
             }
         }
     }
+    // Batteries of every level in every cell of every layout: by a line call, first with an output that is a byte short, and by one for all.
+    for (level, payload) in every_level(0x25) {
+        let frame = framed(0x0C, level % 2, &payload);
+        let ops = vec![
+            Op::Push(frame.clone()),
+            Op::Line { work: 0, out: -1, fault: Fault::None },
+            LINE,
+            Op::Push(frame),
+            Op::AllLines { work: 0, room: 60, fault: Fault::None },
+        ];
+        run.case(&Session::of(64, 70, ops));
+    }
 }
 
 /// Counts with every room from none to more than a call needs.
@@ -630,7 +642,7 @@ fn full_counts(run: &mut Run) {
     }
 }
 
-/// A part of a stream: a frame that the plan names, another, a damaged one, noise, or what looks like a frame.
+/// A part of a stream: a frame that the plan names, another, a battery of any levels, a damaged one, noise, or what looks like a frame.
 pub fn part(c: &mut Choice) -> Vec<u8> {
     match c.below(16) {
         0..5 => {
@@ -638,6 +650,7 @@ pub fn part(c: &mut Choice) -> Vec<u8> {
             framed(data_type, c.byte(), &accepted(c, entry, command))
         }
         5 if c.one_in(4) => framed(0x0C, c.byte(), &setting_texts(&name(c), &name(c))),
+        6 if c.one_in(4) => framed(0x0C, c.byte(), &any_levels(c, 0x23)),
         5 => {
             let names: Vec<Vec<u8>> = (0..c.below(4)).map(|_| name(c)).collect();
             framed(0x0E, c.byte(), &paired(c, 0x37, &names))

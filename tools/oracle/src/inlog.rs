@@ -8,13 +8,17 @@ use common::streams::{Kind, stream};
 const MOST: usize = 147_456;
 
 /// Lines of the four kinds, and what is none.
-const LINES: [&str; 21] = [
+const LINES: [&str; 24] = [
     "F 3E0C000000000423005001843C",
     "R 08",
     "H 010100000000",
     "S 3E0E010000001A3702012A2A2A2A2A2A2A2A2A2A2A2A2A2A2A2A2A0100000000002E3C",
     // As it was written before, with the length of the name.
     "S 3E0E010000001C3702012A2A2A2A2A2A2A2A2A2A2A2A2A2A2A2A2A01000000022A2A00863C",
+    // Batteries with a level above 100, written before: main, the right of two, and the case.
+    "F 3E0C00000000042300FF01333C",
+    "F 3E0C0100000008230950006501141E293C",
+    "F 3E0C0000000005250AFF001E5D3C",
     // Lower case, a number that no line has, a command without a length and a length without a command.
     "F 3E0c000000000423005001843C",
     "R 09",

@@ -1,6 +1,6 @@
 //! Cases for `line_reader`: what a line of a log says, by the reading of `tools/common/src/lines.rs` over the Rust's `unpack` and `pack`.
 use crate::text::{Choice, List, field, lent, over, shown};
-use common::frames::{END, SENTRY, START, escaped, framed};
+use common::frames::{END, SENTRY, START, escaped, every_level, framed};
 use common::log::hex;
 use common::lines::{self, Line};
 use original::mdr::frame::{checksum, escape_into};
@@ -23,6 +23,9 @@ pub fn list() -> List {
     packed(&mut l);
     longest(&mut l);
     damaged(&mut l);
+    high_levels(&mut l);
+    // As many as the program reads.
+    assert!(l.cases.len() <= 1 << 20);
     l
 }
 
@@ -272,5 +275,18 @@ fn damaged(l: &mut List) {
             }
         }
         any(l, &line, n + c.below(2));
+    }
+}
+
+/// Lines written before 02's C-20: batteries with every level above 100 in every cell of every layout, in full.
+fn high_levels(l: &mut List) {
+    for (level, p) in every_level(0x23) {
+        if level <= 100 {
+            continue;
+        }
+        let line = format!("F {}\n", hex(&framed(0x0C, level % 2, &p))).into_bytes();
+        let Some(Line::Full(frame)) = lines::read(&line) else { panic!("a line that reads") };
+        assert_eq!(frame.payload, p);
+        whole(l, &line, p.len());
     }
 }

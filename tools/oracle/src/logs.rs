@@ -1,7 +1,8 @@
 //! A session for `log`: a stream of frames of every kind, and the log of its spans, found by the Rust's `Scanner`.
 use crate::payloads::{LETTERS, NAMES, REPAIRED, ROWS, captured, info};
 use crate::text::{Choice, rule};
-use common::frames::{END, HOUSE, SENTRY, START, escaped, framed, house_plan};
+use common::causes::{BATTERY, Decoder, MOST_LEVEL, level_places, read};
+use common::frames::{END, HOUSE, SENTRY, START, escaped, every_level, framed, house_plan};
 use common::log::{Log, reading};
 use common::settings::texts;
 use original::mdr::frame::{checksum, escape_into};
@@ -58,6 +59,7 @@ fn stream() -> Vec<u8> {
     every_cut(&mut s);
     name_lengths(&mut s);
     twice(&mut s);
+    levels(&mut s);
     // A frame whose end never comes.
     s.bytes.extend([END, START, 0x0C, 0, 0, 0, 0, 4, 0x23, 0]);
     s.bytes
@@ -152,7 +154,14 @@ fn accepted(c: &mut Choice, data_type: u8, command: u8) -> Vec<Vec<u8>> {
                 all.push([vec![command, 0, n], rule(1, 2 * usize::from(n))].concat());
             }
         }
-        (0x0C, 0x23 | 0x25) => all = with_kinds(&[(0, 4), (1, 6), (2, 4), (8, 5), (9, 8), (10, 5)], c),
+        (0x0C, 0x23 | 0x25) => {
+            all = with_kinds(&BATTERY, c);
+            for p in &mut all {
+                for &at in level_places(p[1]) {
+                    p[at] = p[at].min(MOST_LEVEL);
+                }
+            }
+        }
         (0x0C, 0x57 | 0x59) => {
             for n in [0, 1, 6, 10, 60, 61, 62, 255] {
                 all.push([vec![command, 0, c.byte(), n], rule(u64::from(n), usize::from(n))].concat());
@@ -464,8 +473,8 @@ fn name_lengths(s: &mut Stream) {
     }
 }
 
-/// A session twice. The second time the addresses, names and lengths of names are others, and so are the lengths of refused lists, the noise
-/// and what is wrong in a damaged frame; the public parts are the same, so that the lines are.
+/// A session twice. The second time the addresses, names and lengths of names are others, and so are the lengths of refused lists, battery
+/// levels above 100, the noise and what is wrong in a damaged frame; the public parts are the same, so that the lines are.
 fn twice(s: &mut Stream) {
     let sessions = [61, 62].map(|own| session(&mut Choice::new(60), &mut Choice::new(own)));
     let [first, second] = sessions.each_ref().map(|session| log(&spans([&session[..]])));
@@ -506,7 +515,9 @@ fn session(public: &mut Choice, own: &mut Choice) -> Vec<u8> {
                 escaped(&body(0x0E, seq, few.len() as u32 + u32::from(off), few, 0)),
                 between_markers(&[&[0x0E; 8][..], &more, &[SENTRY, off & 0x0F]].concat()),
                 framed(0x01, seq, &[]),
-                framed(0x0C, seq, &[0x23, 0x00, public.byte(), 0x01]),
+                framed(0x0C, seq, &[0x23, 0x00, public.byte() % 101, 0x01]),
+                // A level that is too high, and what stands beside it, are not public.
+                framed(0x0C, seq, &[0x25, 0x0A, 101 + own.below(155) as u8, own.byte(), own.byte()]),
                 // Withheld: the length is public, what stands behind the command is not.
                 framed(0x0C, seq, &[0xA5, off, own.byte()]),
             ] {
@@ -516,6 +527,17 @@ fn session(public: &mut Choice, own: &mut Choice) -> Vec<u8> {
         }
     }
     out
+}
+
+/// Batteries of every level in every cell of every layout: to 100 with the whole frame, above it with its head.
+fn levels(s: &mut Stream) {
+    let plan = house_plan();
+    for (level, p) in every_level(0x23) {
+        let accepted = level <= 100;
+        assert_eq!(reading(&plan, 0x0C, &p).is_some(), accepted);
+        assert_eq!(read(Decoder::Battery, &p).err(), (!accepted).then_some(29));
+        s.add(framed(0x0C, level % 2, &p));
+    }
 }
 
 /// Whether a piece ends here: they are of 1, 2, .. 97, 1, 2, .. bytes, so that 97 of them make 4,753.

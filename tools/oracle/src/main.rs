@@ -6,6 +6,7 @@ mod bills;
 mod causes;
 mod frames;
 mod inlog;
+mod levels;
 mod lines;
 mod logs;
 mod modes;

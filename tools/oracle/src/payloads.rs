@@ -1,6 +1,6 @@
 //! Cases for `payload`: the Rust's `Message::split`, eight decoders, `AmbientRange` and `EqShape`, and its `from_utf8` and `chars`.
 use crate::text::{Choice, List, field, lent, rule, shown, sum};
-use common::causes::{Decoder, read};
+use common::causes::{BATTERY, Decoder, level_places, read};
 use original::mdr::payload::{
     AmbientRange, Cell, Charging, EqShape, GeneralSetting, Message, NoiseMode, Reading, Table, decode_general_setting_info,
 };
@@ -20,6 +20,7 @@ pub fn list() -> List {
     texts(&mut s);
     ranges(&mut s);
     crate::causes::cases(&mut s);
+    crate::levels::cases(&mut s);
     s.list
 }
 
@@ -62,12 +63,13 @@ fn range(r: AmbientRange) -> String {
     flag(r.voice) + &word(r.min) + &word(r.max) + &word(r.step)
 }
 
-/// OURS, by 02: where a decoder answers `None`, and of an empty payload, the refusal is 25, 26 or 19.
+/// OURS, by 02: where a decoder answers `None`, and of an empty payload, the refusal is 25, 26 or 19; where it reads a battery level above
+/// 100, 29.
 fn refusal(read: Result<Reading, u8>) -> String {
     word("refused") + &word(read.expect_err("what another decoder reads"))
 }
 
-fn reading(letter: char, table: Table, payload: &[u8], m: usize) -> String {
+pub fn reading(letter: char, table: Table, payload: &[u8], m: usize) -> String {
     match letter {
         'm' => message(payload),
         'b' => match read(Decoder::Battery, payload) {
@@ -284,7 +286,7 @@ impl Session {
     }
 
     /// Every byte at a place.
-    fn values(&mut self, letter: char, n: usize, at: usize) {
+    pub fn values(&mut self, letter: char, n: usize, at: usize) {
         let mut total = 0;
         for b in 0..=255 {
             self.kept[at] = b;
@@ -416,9 +418,12 @@ fn messages(s: &mut Session) {
 }
 
 fn batteries(s: &mut Session) {
-    for (kind, len) in [(0x00, 4), (0x01, 6), (0x02, 4), (0x08, 5), (0x09, 8), (0x0A, 5)] {
+    for (kind, len) in BATTERY {
         let mut p = rule(8, len);
         (p[0], p[1]) = (0x23, kind);
+        for &at in level_places(kind) {
+            p[at] %= 101;
+        }
         s.sweep('b', &p);
         for charging in [0, 1, 2, 3, 4, 255] {
             p[3] = charging;
