@@ -1,17 +1,10 @@
 -- 02, C-20: a battery reading is the Rust's, and then its levels are tried. Assumes nothing.
-use Prim.Native.Nat.{ℕ, _≤_}
+use Prim.Native.Nat.{ℕ}
 use mathlib.Core.Path.{_≡_, ap, _∙_}
 use mathlib.Core.Bool.{Bool, true, false}
 use mathlib.Core.List.{List, []}
-use native.Mathlib.Omega.{arith}
-use lib.Dec.{eqb}
-use lib.ListN.{length}
 use Rattle.base.specs.Outcome.{accepted, refused, pick, andThen}
-use Rattle.reading.specs.Message.{kindOf}
-use Rattle.reading.specs.Reading.{Layout}
-use Rattle.reading.proofs.LawsItems.{walk-fixed}
-use Rattle.reading.proofs.LawsReading.{was-read}
-use Rattle.battery.specs.Battery.{batteryLayout, anyLevelOf, anyHigh, levelsTried, batteryOf}
+use Rattle.battery.specs.Battery.{anyLevelOf, anyHigh, levelsTried, batteryOf}
 use Rattle.battery.specs.declared.battery.BatteryReport.{BatteryReport}
 
 module _ (p : List ℕ) where
@@ -33,23 +26,3 @@ module _ (p : List ℕ) where
 
     pub levels-pass : anyHigh r ≡ false → batteryOf p ≡ accepted r
     levels-pass h = by-levels h
-
--- no layout has more than eight bytes
-record Short (l : Layout BatteryReport) : Type 0 where
-  most : l .len ≤ 8
-
-either-short : (t : Bool) {l m : Layout BatteryReport} → Short l → Short m → Short (pick t l m)
-either-short true h k = h
-either-short false h k = k
-
-short : (k : ℕ) → Short (batteryLayout k)
-unfolding batteryLayout
-short k =
-    either-short (eqb k 0x00) (record { most = omega arith }) (either-short (eqb k 0x01) (record { most = omega arith }) (either-short (eqb k 0x02) (record { most = omega arith })
-    (either-short (eqb k 0x08) (record { most = omega arith }) (either-short (eqb k 0x09) (record { most = omega arith }) (either-short (eqb k 0x0A) (record { most = omega arith }) (record { most = omega arith }))))))
-
-pub report-length : (p : List ℕ) {r : BatteryReport} → anyLevelOf p ≡ accepted r → length p ≤ 8
-unfolding anyLevelOf
-report-length p {r} e =
-    let k = kindOf p in
-    omega (arith, was-read _ _ _ p r e .0 .ends, walk-fixed (batteryLayout k .len) p 1 0, short k .most)
