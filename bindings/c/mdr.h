@@ -206,7 +206,8 @@ uint8_t mdr_count_characters(const uint8_t *bytes, size_t bytes_len, uint64_t *v
  * lies within. */
 uint8_t mdr_admits(uint8_t min, uint8_t max, uint8_t step, int32_t level, uint64_t *values, size_t values_len);
 
-/* [1, min, max, step] of the levels that lie from low to high, or [0] for none. Never refuses: the status is 0. */
+/* [1, min, max, step] of the levels that lie from low to high, or [0] for none. Never refuses: the status is 0. What is left may be narrowed
+ * again: in either order that is narrowing once, to the higher low and the lower high. */
 uint8_t mdr_within(uint8_t min, uint8_t max, uint8_t step, uint8_t low, uint8_t high, uint64_t *values, size_t values_len);
 
 /* The shape of an equalizer with so many steps: 0 clear bass and five bands, 1 ten bands, 2 unknown. */

@@ -663,7 +663,8 @@ impl AmbientRange {
         Ok(v[0] == 1)
     }
 
-    /// The levels that lie from `low` to `high`, on the same steps.
+    /// The levels that lie from `low` to `high`, on the same steps. Narrowed again, in either order, it is narrowed once, to the higher low
+    /// and the lower high.
     pub fn within(self, low: u8, high: u8) -> Option<AmbientRange> {
         let mut v = [0; 4];
         unsafe { sys::mdr_within(self.min, self.max, self.step, low, high, v.as_mut_ptr(), v.len()) };

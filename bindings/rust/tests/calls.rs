@@ -704,6 +704,27 @@ fn ranges() {
     assert_eq!(a.within(21, 30), None);
 }
 
+/// The headset's bounds and then the grader's, in either order and at once.
+#[test]
+fn narrowed_twice() {
+    let range = AmbientRange { min: 1, max: 19, step: 5 };
+    let left = AmbientRange { min: 6, max: 11, step: 5 };
+    assert_eq!(range.within(2, 17), Some(AmbientRange { min: 6, max: 16, step: 5 }));
+    assert_eq!(range.within(2, 17).and_then(|r| r.within(0, 11)), Some(left));
+    assert_eq!(range.within(0, 11).and_then(|r| r.within(2, 17)), Some(left));
+    assert_eq!(range.within(2, 11), Some(left));
+    // Each pair leaves levels, both together none.
+    assert_eq!(range.within(0, 10).and_then(|r| r.within(7, 255)), None);
+    for (low, high) in (0..=20).flat_map(|low| (0..=20).map(move |high| (low, high))) {
+        let twice = range.within(2, 17).and_then(|r| r.within(low, high));
+        for level in -1..=25 {
+            let lies = (2..=17).contains(&level) && (i32::from(low)..=i32::from(high)).contains(&level);
+            let admitted = twice.is_some_and(|r| r.admits(level) == Ok(true));
+            assert_eq!(admitted, lies && range.admits(level) == Ok(true), "{low} {high} {level}");
+        }
+    }
+}
+
 #[test]
 fn lists() {
     assert_eq!(equalizer(&[0x57, 0x00, 0xA0, 3, 7, 8, 9]), Ok(Equalizer { preset: 0xA0, steps: &[7, 8, 9] }));

@@ -4,7 +4,7 @@ use mathlib.Core.Path.{_≡_, refl, sym, ap, _∙_}
 use mathlib.Core.Bool.{Bool, true, false, true≢false, _||_}
 use mathlib.Core.List.{[]}
 use mathlib.Core.Logic.{_↔_}
-use mathlib.Core.Option.{none, some}
+use mathlib.Core.Option.{Option, none, some}
 use native.Mathlib.Omega.{arith}
 use lib.Dec.{T, ltb, leb, eqb}
 use lib.IntN.{ℤ, pos, negsuc, natAbs}
@@ -12,10 +12,10 @@ use lib.Signed.{ltZ, nonNeg}
 use mir.Syntax.{w32}
 use mir.Val.{Fits, SFits, toZ, ofZ}
 use mir.Facts.{toZ-ofZ, fits-natAbs}
-use native.Mathlib.Nat.{suc-mul, div-add-mod', mod-lt, mul-mod-left, mul-le-mul-right, lt-of-mul-lt-mul-right}
+use native.Mathlib.Nat.{suc-mul, add-mul, mul-comm, mul-sub, div-add-mod', mod-lt, mul-mod-left, mul-le-mul-right, lt-of-mul-lt-mul-right}
 use borrow.Author.Tests.{ltb-true, ltb-false, leb-true, leb-false, eqb-true, le-ltb, eq-eqb, ne-eqb}
 use Rattle.base.specs.Outcome.{accepted, refused, pick}
-use Rattle.range.specs.Range.{admitsOf, withinOf, firstFrom, lastTo}
+use Rattle.range.specs.Range.{admitsOf, withinOf, between, firstFrom, lastTo}
 use Rattle.range.specs.declared.range.AmbientRange.{AmbientRange}
 
 negative-no : (r : AmbientRange) (z : ℤ) → ltZ z (pos 0) ≡ true → accepted false ≡ admitsOf r z
@@ -58,6 +58,15 @@ module _ {low step : ℕ} where
       let k : s .count < suc (t .count) = lt-of-mul-lt-mul-right step c in
       let j : s .count ≤ t .count = omega arith in
       omega (arith, mul-le-mul-right step j)
+
+  -- the steps from a level on the steps are the same ones, from there on
+  pub steps-on : {l m : ℕ} → OnSteps low step l → OnSteps l step m → OnSteps low step m
+  steps-on s t = record { count = s .count + t .count; is = omega (arith, add-mul (s .count) (t .count) step) }
+
+  pub steps-from : {l m : ℕ} → OnSteps low step l → OnSteps low step m → l ≤ m → OnSteps l step m
+  steps-from s t h =
+      let c : (t .count - s .count) * step ≡ t .count * step - s .count * step = rw (mul-comm (t .count - s .count) step, mul-comm (t .count) step, mul-comm (s .count) step) (mul-sub step (t .count) (s .count)) in
+      record { count = t .count - s .count; is = omega arith }
 
   -- the test that `admitsOf` makes
   pub on-steps : (l : ℕ) → low ≤ l → OnSteps low step l ↔ ((l - low) % step ≡ 0)
@@ -129,43 +138,59 @@ module _ (low step : ℕ) (some-step : 0 < step) where
         greatest = λ m s l. no-nearer s on (omega (arith, div-add-mod' x step, mod-lt x some-step));
       }
 
+-- a level of a range: on its steps, of at least 1, and not above its top
+pub record Level (r : AmbientRange) (n : ℕ) : Type 0 where
+  pub on : OnSteps (r .min) (max 1 (r .step)) n
+  pub upto : n ≤ r .max
+
+-- where the step is above 0, exactly these are admitted
+pub admits-level : (r : AmbientRange) (n : ℕ) → 0 < r .step → (admitsOf r (pos n) ≡ accepted true) ↔ Level r n
+admits-level r n some-step =
+    let k : max 1 (r .step) ≡ r .step = omega arith in
+    let (forth, back) = admits-steps r n some-step in
+    (λ e. record { on = rw k (forth e .0); upto = forth e .1 }, λ l. back (rw k at (l .on), l .upto))
+
 -- r′ is r narrowed to the bounds lo and hi: its ends are the least and the greatest level on r's steps within r and these bounds
-pub record Narrowing (r r′ : AmbientRange) (step lo hi : ℕ) : Type 0 where
-  pub first : Least (r .min) step lo (r′ .min)
-  pub last : Greatest (r .min) step (min (r .max) hi) (r′ .max)
+pub record Narrowing (r r′ : AmbientRange) (lo hi : ℕ) : Type 0 where
+  pub first : Least (r .min) (max 1 (r .step)) lo (r′ .min)
+  pub last : Greatest (r .min) (max 1 (r .step)) (min (r .max) hi) (r′ .max)
   pub ordered : r′ .min ≤ r′ .max
   pub same : (r′ .voice ≡ r .voice) × (r′ .step ≡ r .step)
 
-module _ (r r′ : AmbientRange) (lo hi : ℕ) where
-  -- by steps of at least 1
-  pub within-nearest : withinOf r lo hi ≡ some r′ → Narrowing r r′ (max 1 (r .step)) lo hi
+-- a level of a range that lies in a pair of bounds
+pub record LevelIn (r : AmbientRange) (lo hi n : ℕ) : Type 0 where
+  pub level : Level r n
+  pub reaches : lo ≤ n
+  pub upto : n ≤ hi
+
+module _ (r : AmbientRange) (lo hi : ℕ) where
+  -- what `within` gives: none where no level lies in the bounds, else the range narrowed to them
+  pub within-cases : (P : Option AmbientRange → Type 0) → (((n : ℕ) → ¬ (LevelIn r lo hi n)) → P none) → ((r′ : AmbientRange) → Narrowing r r′ lo hi → P (some r′)) → P (withinOf r lo hi)
   unfolding withinOf
-  within-nearest = go (ltb top (r .min)) refl (ltb last first) refl
+  within-cases P empty narrowed = go (ltb top (r .min)) refl
     where
+      step : ℕ
+      step = max 1 (r .step)
+
       top : ℕ
       top = min (r .max) hi
 
       first : ℕ
-      first = firstFrom (r .min) (max 1 (r .step)) lo
+      first = firstFrom (r .min) step lo
 
       last : ℕ
-      last = lastTo (r .min) (max 1 (r .step)) top
+      last = lastTo (r .min) step top
 
-      go : (t : Bool) → ltb top (r .min) ≡ t → (u : Bool) → ltb last first ≡ u
-          → pick t none (pick u none (some (record { voice = r .voice; min = first; max = last; step = r .step }))) ≡ some r′ → Narrowing r r′ (max 1 (r .step)) lo hi
-      go true et u eu e = let z : _≡_ {A = ℕ} 0 1 = cc in absurd (omega arith)
-      go false et true eu e = let z : _≡_ {A = ℕ} 0 1 = cc in absurd (omega arith)
-      go false et false eu e =
-          let k : 0 < max 1 (r .step) = omega arith in
-          let is : record { voice = r .voice; min = first; max = last; step = r .step } ≡ r′ = cc in
-          rw (← is)
-          (record {
-            first = first-nearest (r .min) (max 1 (r .step)) k lo;
-            last = last-nearest (r .min) (max 1 (r .step)) k top (ltb-false top (r .min) et);
-            ordered = ltb-false last first eu;
-            same = (refl, refl);
-          })
+      some-step : 0 < step
+      some-step = omega arith
 
-  -- by its own steps where these are above 0
-  pub within-steps : 0 < r .step → withinOf r lo hi ≡ some r′ → Narrowing r r′ (r .step) lo hi
-  within-steps h e = let k : max 1 (r .step) ≡ r .step = omega arith in rw k at (within-nearest e)
+      least : Least (r .min) step lo first
+      least = first-nearest (r .min) step some-step lo
+
+      ends : (u : Bool) → ltb last first ≡ u → Greatest (r .min) step top last → P (pick u none (some (record { voice = r .voice; min = first; max = last; step = r .step })))
+      ends true e greatest = empty (λ n l. omega (arith, ltb-true last first e, least .least n (l .level .on) (l .reaches), greatest .greatest n (l .level .on) (omega (arith, l .level .upto, l .upto))))
+      ends false e greatest = narrowed _ (record { first = least; last = greatest; ordered = ltb-false last first e; same = (refl, refl) })
+
+      go : (t : Bool) → ltb top (r .min) ≡ t → P (pick t none (between r first last))
+      go true e = empty (λ n l. omega (arith, ltb-true top (r .min) e, steps-up (l .level .on), l .level .upto, l .upto))
+      go false e = ends (ltb last first) refl (last-nearest (r .min) step some-step top (ltb-false top (r .min) e))

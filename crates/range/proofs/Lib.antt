@@ -1,2 +1,3 @@
 pub mod LawsRange
+pub mod LawsNarrowing
 pub mod CasesRange

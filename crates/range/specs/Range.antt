@@ -41,7 +41,7 @@ abbrev pub lastTo : (min step top : ℕ) → ℕ
 lastTo min step top = min + (top - min) / step * step
 
 -- the range with these ends, of the same voice and step, unless it is empty
-abbrev between : AmbientRange → (first last : ℕ) → Option AmbientRange
+abbrev pub between : AmbientRange → (first last : ℕ) → Option AmbientRange
 between r first last = pick (ltb last first) none (some (record { voice = r .voice; min = first; max = last; step = r .step }))
 
 -- from the first level not below `lo` to the last not above `hi`, by steps of at least 1

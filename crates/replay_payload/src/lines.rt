@@ -2,15 +2,12 @@
 use crate::calls::lookup;
 use crate::calls::reading;
 use crate::outcomes::outcomes;
-use crate::ranges::admits_all;
-use crate::ranges::within_all;
 use crate::strings::texts;
 use crate::sums::lengths;
 use crate::sums::pairs;
 use crate::sums::parts;
 use crate::sums::placed_parts;
 use crate::sums::values;
-use capability::AmbientRange;
 use lists::Table;
 use replay::byte_field;
 use replay::end_line;
@@ -75,8 +72,6 @@ fn answer(
             text,
             k,
         ),
-        b'a' => admits_all(range_of(input, at), text, k),
-        b'w' => within_all(range_of(input, at), text, k),
         b't' => texts(
             number_field(input, at, 1),
             byte_field(input, at, 2),
@@ -85,17 +80,6 @@ fn answer(
             k,
         ),
         op => one(op, input, at, kept, records, text, k),
-    }
-}
-
-// The range MIN, MAX, STEP, with a voice where the step is odd.
-fn range_of(input: &[u8], at: usize) -> AmbientRange {
-    let step = byte_field(input, at, 3);
-    AmbientRange {
-        voice: step % 2 == 1,
-        min: byte_field(input, at, 1),
-        max: byte_field(input, at, 2),
-        step,
     }
 }
 

@@ -21,8 +21,6 @@
 //   o N L            the same by its outcome, 0 or the refusal's number: each length where it becomes another, and that outcome
 //   s N L            the reading of letter L of each part of the N bytes, by their sum
 //   d N AT L         the reading of letter L with each part of a text in the text's place, its length byte at AT, by their sum
-//   a MIN MAX STEP   admits, of the 256 levels of a byte and nine beyond them
-//   w MIN MAX STEP   within, of every pair of 28 bounds
 //   t N BYTE         the characters of strings of N bytes that begin with BYTE, by their sum: every one of 1 to 3 bytes, some of 4
 mod calls;
 mod lines;

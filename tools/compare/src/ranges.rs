@@ -82,6 +82,62 @@ impl Case for Range {
     }
 }
 
+/// A range that is narrowed to two pairs of bounds: min, max, step, and low and high of each pair.
+#[derive(Clone, Debug)]
+pub struct Twice([u8; 7]);
+
+/// What `within` leaves, by our side: min, max and step.
+fn narrowed(left: Option<[u8; 3]>, (low, high): (u8, u8)) -> Option<[u8; 3]> {
+    let [min, max, step] = left?;
+    let mut values = [0; 4];
+    ours::within(min, max, step, low, high, &mut values);
+    (values[0] == 1).then(|| [1, 2, 3].map(|i| values[i] as u8))
+}
+
+/// Whether what is left admits a level, by our side: a 0, a 1 or the refusal.
+fn admitted(left: Option<[u8; 3]>, level: i32) -> u8 {
+    let Some([min, max, step]) = left else { return 0 };
+    let mut values = [0; 1];
+    let status = ours::admits(min, max, step, level, &mut values);
+    if status == 0 { values[0] as u8 } else { status }
+}
+
+impl Case for Twice {
+    fn difference(&self, tally: &mut Tally) -> Option<String> {
+        let [min, max, step, low, high, then_low, then_high] = self.0;
+        let (by, then) = ((low, high), (then_low, then_high));
+        let range = AmbientRange { voice: false, min, max, step };
+        let expected = range.within(low, high).and_then(|r| r.within(then_low, then_high)).map(|r| [r.min, r.max, r.step]);
+        tally.add("within_twice", if expected.is_some() { 0 } else { b'N' });
+        let whole = Some([min, max, step]);
+        let got = [
+            narrowed(narrowed(whole, by), then),
+            narrowed(narrowed(whole, then), by),
+            narrowed(whole, (low.max(then_low), high.min(then_high))),
+        ];
+        if got != [expected; 3] {
+            return Some(format!("expected: {expected:?}\nours, in each order and at once: {got:?}"));
+        }
+        // By 02, for a step above 0: what was admitted before and lies in both pairs, and none only where nothing does.
+        let lies = |(low, high): (u8, u8), level: i32| (i32::from(low)..=i32::from(high)).contains(&level);
+        let kept = |level: i32| lies(by, level) && lies(then, level) && range.admits(level);
+        let levels = -1..=256;
+        if step > 0 && expected.is_none() && levels.clone().any(kept) {
+            return Some("none is left of a range with such a level".into());
+        }
+        let wrong = levels.clone().find(|&level| step > 0 && admitted(got[0], level) != u8::from(kept(level)));
+        wrong.map(|level| format!("level {level}, expected: {}\nours:     {}", u8::from(kept(level)), admitted(got[0], level)))
+    }
+
+    fn smaller(&self) -> Vec<Twice> {
+        (0..7).filter(|&i| self.0[i] > 0).map(|i| Twice(std::array::from_fn(|j| self.0[j] - u8::from(i == j)))).collect()
+    }
+
+    fn shown(&self) -> String {
+        format!("{self:?}")
+    }
+}
+
 /// A number of steps, and a step.
 #[derive(Clone, Debug)]
 pub struct Steps {
@@ -189,6 +245,13 @@ pub fn exhaustive(run: &mut Run) {
             }
         }
     }
+    for ends in tuples::<2>(5) {
+        for step in 0..=5 {
+            for [low, high, then_low, then_high] in tuples::<4>(5) {
+                run.case(&Twice([ends[0], ends[1], step, low, high, then_low, then_high]));
+            }
+        }
+    }
     for count in (0..=20).chain([255, 256, 262, 266, usize::MAX]) {
         for step in 0..=255 {
             run.case(&Steps { count, step });
@@ -209,11 +272,28 @@ pub fn exhaustive(run: &mut Run) {
     }
 }
 
+/// All of `N` numbers below `n`.
+fn tuples<const N: usize>(n: u8) -> impl Iterator<Item = [u8; N]> {
+    let n = u32::from(n);
+    (0..n.pow(N as u32)).map(move |k| std::array::from_fn(|i| (k / n.pow(i as u32) % n) as u8))
+}
+
 pub fn random(run: &mut Run, c: &mut Choice) {
     let level = if c.one_in(20) { c.number() as i32 } else { c.below(300) as i32 - 20 };
     let call = if c.one_in(2) { Call::Admits { level } } else { Call::Within { low: c.byte(), high: c.byte() } };
     let step = if c.one_in(2) { c.below(12) as u8 } else { c.byte() };
     run.case(&Range { call, min: c.byte(), max: c.byte(), step, values: values(c) });
+    let mut twice = [(); 7].map(|()| c.byte());
+    if c.one_in(2) {
+        twice[2] = c.below(12) as u8;
+    }
+    // Most pairs that are chosen so leave nothing.
+    if !c.one_in(4) {
+        for at in [0, 3, 5] {
+            twice[at..at + 2].sort();
+        }
+    }
+    run.case(&Twice(twice));
     if c.one_in(8) {
         let n = if c.one_in(4) { c.between(505, 520) } else { 512 };
         let mut bytes: Vec<u8> = (0..n).map(|_| c.below(9) as u8).collect();

@@ -11,6 +11,7 @@ mod lines;
 mod logs;
 mod modes;
 mod payloads;
+mod ranges;
 mod scanners;
 mod tally;
 mod text;
@@ -32,6 +33,7 @@ fn main() {
         Some("bill") => bytes(bills::list()),
         Some("bill_program") => bill_program::list(),
         Some("window") => bytes(windows::list()),
+        Some("range") => bytes(ranges::list()),
         Some("modes") => modes::list(),
         _ => usage(),
     };
@@ -48,6 +50,6 @@ fn bytes(list: text::List) -> (Vec<u8>, Vec<u8>) {
 }
 
 fn usage() -> ! {
-    eprintln!("usage: oracle frame|scanner|payload|log|lines|again|inlog|tally|bill|bill_program|window|modes cases|answers");
+    eprintln!("usage: oracle frame|scanner|payload|log|lines|again|inlog|tally|bill|bill_program|window|range|modes cases|answers");
     std::process::exit(2)
 }

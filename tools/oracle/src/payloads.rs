@@ -1,4 +1,4 @@
-//! Cases for `payload`: the Rust's `Message::split`, eight decoders, `AmbientRange` and `EqShape`, and its `from_utf8` and `chars`.
+//! Cases for `payload`: the Rust's `Message::split`, eight decoders and `EqShape`, and its `from_utf8` and `chars`.
 use crate::text::{Choice, List, field, lent, rule, shown, sum};
 use common::causes::{BATTERY, Decoder, level_places, read};
 use original::mdr::payload::{
@@ -18,7 +18,6 @@ pub fn list() -> List {
     settings(&mut s);
     setting_texts(&mut s);
     texts(&mut s);
-    ranges(&mut s);
     crate::causes::cases(&mut s);
     crate::levels::cases(&mut s);
     s.list
@@ -229,14 +228,6 @@ pub fn outcome(letter: char, payload: &[u8]) -> u8 {
     let answer = reading(letter, Table::One, payload, 512);
     let number = answer.strip_prefix("refused ").and_then(|rest| rest.split(' ').next());
     number.map_or(0, |n| n.parse().expect("a number"))
-}
-
-/// OURS: refusal 22 where the Rust panics.
-fn admits(r: AmbientRange, level: i32) -> u8 {
-    if r.step == 0 && (i32::from(r.min)..=i32::from(r.max)).contains(&level) {
-        return 22;
-    }
-    u8::from(r.admits(level))
 }
 
 // The cases.
@@ -861,41 +852,4 @@ fn texts(s: &mut Session) {
         }
     }
     // What the strings leave at the front of what is kept is not read again before another is kept.
-}
-
-fn ranges(s: &mut Session) {
-    let levels: Vec<i32> =
-        (0..256).chain([i32::MIN, i32::MIN + 1, -256, -255, -1, 256, 257, i32::MAX - 1, i32::MAX]).collect();
-    let bounds: Vec<u8> = (0..24).chain([127, 128, 254, 255]).collect();
-    let mut case = |min: u8, max: u8, step: u8| {
-        let r = AmbientRange { voice: true, min, max, step };
-        let total = levels.iter().fold(0, |t, &level| sum(t, &[admits(r, level)]));
-        s.list.add(format!("a {min} {max} {step}"), total.to_string());
-        let r = AmbientRange { voice: step % 2 == 1, ..r };
-        let mut total = 0;
-        for &lo in &bounds {
-            for &hi in &bounds {
-                total = match r.within(lo, hi) {
-                    None => sum(total, &[0]),
-                    Some(w) => sum(total, &[1 + u8::from(w.voice), w.min, w.max, w.step]),
-                };
-            }
-        }
-        s.list.add(format!("w {min} {max} {step}"), total.to_string());
-    };
-    for min in 0..=8 {
-        for max in 0..=13 {
-            for step in 0..=6 {
-                case(min, max, step);
-            }
-        }
-    }
-    const ENDS: [u8; 8] = [0, 1, 2, 20, 127, 128, 254, 255];
-    for min in ENDS {
-        for max in ENDS {
-            for step in ENDS {
-                case(min, max, step);
-            }
-        }
-    }
 }

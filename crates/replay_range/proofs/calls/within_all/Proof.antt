@@ -1,22 +1,21 @@
 use Prim.Native.Nat.{_-_}
 use borrow.Author.Needs.{needs}
-use Rattle.replay_payload.proofs.ranges.within_low.Statement.{statement}
-use Rattle.replay_payload.proofs.ranges.within_low.Tie as tie
+use Rattle.replay_range.proofs.calls.within_all.Statement.{statement}
+use Rattle.replay_range.proofs.calls.within_all.Tie as tie
 
 abbrev Inv-loop : tie.InvT-loop
-Inv-loop r low before sum₀ i₀ sum i = Unit {0}
+Inv-loop r sum₀ i₀ sum i = Unit {0}
 
 abbrev μ-loop : tie.MeasureT-loop
-μ-loop r low before sum₀ i₀ sum i = 28 - i
+μ-loop r sum₀ i₀ sum i = 28 - i
 
-pub within-low-spec : {M : Type 1} → statement M
-within-low-spec =
+pub within-all-spec : {M : Type 1} → statement M
+within-all-spec =
     tie.close
     (tie.spec
     Inv-loop
     μ-loop
     (λ c. search needs)
-    (λ c κs. search needs)
     (λ c κs. search needs)
     (λ c κs. search needs)
     (λ c. search needs)
