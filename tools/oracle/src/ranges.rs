@@ -1,10 +1,10 @@
 //! Cases for `replay_range`: the Rust's `AmbientRange`, and ranges narrowed to one pair of bounds and then to another.
 use crate::text::{List, sum};
 use original::mdr::payload::AmbientRange;
-use std::ops::RangeInclusive;
 
 type Pair = (u8, u8);
 
+const SMALL: [u8; 14] = [0, 1, 2, 3, 4, 5, 6, 7, 8, 9, 10, 11, 12, 13];
 /// Ends and steps of ranges, and bounds and levels, that lie far apart.
 const ENDS: [u8; 8] = [0, 1, 2, 20, 127, 128, 254, 255];
 const APART: [u8; 8] = [0, 1, 5, 20, 127, 128, 254, 255];
@@ -32,11 +32,11 @@ const BY_HAND: [(&str, &str); 12] = [
 
 pub fn list() -> List {
     let mut list = List::default();
-    each(0..=8, 0..=13, 0..=6, |r| add_calls(&mut list, r));
-    far(&ENDS, |r| add_calls(&mut list, r));
+    each(&SMALL[..9], &SMALL, &SMALL[..7], |r| add_calls(&mut list, r));
+    each(&ENDS, &ENDS, &ENDS, |r| add_calls(&mut list, r));
     // Every two pairs of bounds up to 3, each answer by itself.
-    each(0..=3, 0..=3, 0..=4, |r| {
-        for by in pairs(&[0, 1, 2, 3]) {
+    each(&SMALL[..4], &SMALL[..4], &SMALL[..5], |r| {
+        for by in pairs(&SMALL[..4]) {
             for letter in ['t', 'r', 'o', 'l'] {
                 let AmbientRange { min, max, step, .. } = r;
                 list.add(format!("{letter} {min} {max} {step} {} {}", by.0, by.1), words(letter, r, by));
@@ -47,8 +47,8 @@ pub fn list() -> List {
     for case in BY_HAND {
         assert!(known.contains(&case), "{case:?}");
     }
-    each(0..=7, 0..=7, 0..=8, |r| add_sum(&mut list, 's', r, &[0, 1, 2, 3, 4, 5, 6, 7]));
-    far(&APART, |r| add_sum(&mut list, 'e', r, &APART));
+    each(&SMALL[..8], &SMALL[..8], &SMALL[..9], |r| add_sum(&mut list, 's', r, &SMALL[..8]));
+    each(&APART, &APART, &APART, |r| add_sum(&mut list, 'e', r, &APART));
     list
 }
 
@@ -56,20 +56,10 @@ fn range(min: u8, max: u8, step: u8) -> AmbientRange {
     AmbientRange { voice: step % 2 == 1, min, max, step }
 }
 
-fn each(mins: RangeInclusive<u8>, maxes: RangeInclusive<u8>, steps: RangeInclusive<u8>, mut case: impl FnMut(AmbientRange)) {
-    for min in mins {
-        for max in maxes.clone() {
-            for step in steps.clone() {
-                case(range(min, max, step));
-            }
-        }
-    }
-}
-
-fn far(ends: &[u8], mut case: impl FnMut(AmbientRange)) {
-    for &min in ends {
-        for &max in ends {
-            for &step in ends {
+fn each(mins: &[u8], maxes: &[u8], steps: &[u8], mut case: impl FnMut(AmbientRange)) {
+    for &min in mins {
+        for &max in maxes {
+            for &step in steps {
                 case(range(min, max, step));
             }
         }
@@ -120,9 +110,9 @@ fn words(letter: char, r: AmbientRange, by: Pair) -> String {
         't' => twice(r, by, then).map(ends),
         'r' => twice(r, then, by).map(ends),
         'o' => once(r, by, then).map(ends),
-        _ => levels(r, by, then, &[0, 1, 2, 3]).map(|all| all.into_iter().map(mark).collect()),
+        _ => levels(r, by, then, &SMALL[..4]).map(|all| all.into_iter().map(mark).collect()),
     };
-    pairs(&[0, 1, 2, 3]).into_iter().map(|then| word(then).unwrap_or("-".into()) + " ").collect()
+    pairs(&SMALL[..4]).into_iter().map(|then| word(then).unwrap_or("-".into()) + " ").collect()
 }
 
 /// OURS: what `admits` answers of each level after both narrowings. By 02 it is what it answered before, where the level lies in both
