@@ -1,4 +1,4 @@
-/* The MDR frame log: frames, scanner, readings, the last noise reports and the masked log.
+/* The MDR frame log: frames, scanner, readings, the last noise reports, the masked log and the acks of a listening station.
  *
  * A slice is two arguments, a pointer and a length. No pointer may be null, also where its length is 0. What a call may write to must not
  * overlap anything else that the call is lent. No call keeps a pointer, allocates, or has a state of its own, so calls on different buffers
@@ -28,7 +28,7 @@ enum mdr_refusal {
     MDR_HELD_BEYOND_STORE = 3,  /* the count is above the store's length */
     MDR_STORE_FULL = 4,         /* the piece does not fit behind the held bytes */
     MDR_BAD_PLAN = 5,           /* not 512 bytes, or an entry above 8 */
-    MDR_WORK_TOO_SHORT = 6,     /* a line call's work area is shorter than the store */
+    MDR_WORK_TOO_SHORT = 6,     /* the work area of a line call or of acknowledge is shorter than the store */
     MDR_LINE_TOO_LONG = 7,      /* the line does not fit the output */
     MDR_TOO_SHORT = 8,          /* a frame of fewer than 9 bytes */
     MDR_NO_START = 9,
@@ -40,7 +40,7 @@ enum mdr_refusal {
     MDR_BAD_CHECKSUM = 15,     /* [declared, computed] */
     MDR_LENGTH_MISMATCH = 16,  /* [declared, actual] */
     MDR_PAYLOAD_TOO_LONG = 17, /* above 4294967295 bytes */
-    MDR_OUTPUT_TOO_SHORT = 18, /* escape, pack, ack, read_line */
+    MDR_OUTPUT_TOO_SHORT = 18, /* escape, pack, ack, read_line, acknowledge */
     MDR_OTHER_MESSAGE = 19,    /* a payload of the right kind and length with other contents; of mdr_message an empty one */
     MDR_TOO_FEW_RECORDS = 20,
     MDR_NO_SUCH_DEVICE = 21,
@@ -96,8 +96,8 @@ uint8_t mdr_read_header(const uint8_t *frame, size_t frame_len, uint64_t *values
  *
  * The state counts where the bytes went: from an accepted opening on, after every call, `pushed` is `handed`, `dropped` and `count` added
  * up. A call that would carry a count above 18446744073709551615 is refused by 27. From an accepted opening on that is always a push;
- * mdr_take, mdr_skip and the line calls are refused by 27 only where the caller has set the counts itself. A refused call counts nothing,
- * but for the lines that mdr_all_lines wrote before it was refused. */
+ * mdr_take, mdr_skip, the line calls and mdr_acknowledge are refused by 27 only where the caller has set the counts itself. A refused call
+ * counts nothing, but for the lines that mdr_all_lines wrote before it was refused. */
 
 struct mdr_scanner {
     size_t limit; /* 9 to 65536 */
@@ -275,6 +275,19 @@ uint8_t mdr_line(struct mdr_scanner *scanner, uint8_t *store, size_t store_len, 
  * With the sizes that never refuse mdr_line the first line has room, so a call refused by 7 has written at least one. */
 uint8_t mdr_all_lines(struct mdr_scanner *scanner, uint8_t *store, size_t store_len, const uint8_t *plan, size_t plan_len, uint8_t *work,
                       size_t work_len, uint8_t *out, size_t out_len, uint64_t *values, size_t values_len);
+
+/* [length of the acks together], 0 where none is due. For a listening station: every held span goes, and each that mdr_unpack accepts and
+ * whose type is not 01 is acknowledged. The acks, as mdr_ack writes them, stand in the order of the spans at the front of `out`; bytes
+ * behind stay. A span that is refused, and an ack, gets none. State, store and counts become those of mdr_take, called until it finds no
+ * span. All of `work`, which is no shorter than the store, is zero.
+ *
+ * Refused (1, 2, 3, 6), nothing changes. Then by 18 where not all the acks fit: nothing is taken, nothing written, and `work` is zero. Then
+ * by 27 where the takes together would carry a count too high: nothing changes, nor does `work`.
+ *
+ * How large an output is never too short: 11 bytes for each 9 of the store, cut to a whole number. With n bytes held there are at most n / 9
+ * acks, cut to a whole number, of at most 11 bytes each. */
+uint8_t mdr_acknowledge(struct mdr_scanner *scanner, uint8_t *store, size_t store_len, uint8_t *work, size_t work_len, uint8_t *out,
+                        size_t out_len, uint64_t *values, size_t values_len);
 
 /* Reads one line of a log, its newline included. [letter, type byte, sequence, payload length, command or 256], the letter being the
  * line's first byte. Of an 'R' line [letter, number of the refusal, 0, 0, 256]. The command is told of an 'H' line alone; of an 'S' or 'F'

@@ -414,6 +414,16 @@ impl Scanner {
         };
         (v[0] as usize, accepted(status, &[]))
     }
+
+    /// Takes all held spans, and writes an ack for each accepted frame that is no ack itself, in their order, to the front of `out`: how many
+    /// bytes were written. Refused by `OutputTooShort` where not all of them fit, then by `CountFull`; nothing is then taken or written. An
+    /// `out` of 11 bytes for each 9 of the store is never too short. The bytes that go are counted as by `take`, until it finds no span.
+    pub fn acknowledge(&mut self, store: &mut [u8], work: &mut [u8], out: &mut [u8]) -> Result<usize, Refusal> {
+        let v: [u64; 2] = told(|v, n| unsafe {
+            sys::mdr_acknowledge(self, store.as_mut_ptr(), store.len(), work.as_mut_ptr(), work.len(), out.as_mut_ptr(), out.len(), v, n)
+        })?;
+        Ok(v[0] as usize)
+    }
 }
 
 /// The first span of these bytes.

@@ -119,6 +119,17 @@ unsafe extern "C" {
         values: *mut u64,
         values_len: usize,
     ) -> u8;
+    pub fn mdr_acknowledge(
+        scanner: *mut Scanner,
+        store: *mut u8,
+        store_len: usize,
+        work: *mut u8,
+        work_len: usize,
+        out: *mut u8,
+        out_len: usize,
+        values: *mut u64,
+        values_len: usize,
+    ) -> u8;
     pub fn mdr_read_line(line: *const u8, line_len: usize, out: *mut u8, out_len: usize, values: *mut u64, values_len: usize) -> u8;
 
     pub fn mdr_bill(full: u64, masked: u64, header: u64, unread: u64, tax: u64, values: *mut u64, values_len: usize) -> u8;

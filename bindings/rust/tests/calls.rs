@@ -323,6 +323,135 @@ fn counts_in_no_line() {
     }
 }
 
+/// A frame with the sequence C5 and no payload: it has 9 bytes, and its ack 11.
+const DUE: [u8; 9] = [0x3E, 0x0C, 0xC5, 0, 0, 0, 0, 0xD1, 0x3C];
+
+/// 01's case (b).
+const ITS_ACK: [u8; 11] = [0x3E, 0x01, 0x3D, 0x2C, 0, 0, 0, 0, 0x3D, 0x2D, 0x3C];
+
+/// What a call leaves where it acknowledges these bytes, in a store of 80 with limit 70: the acks, the state and the store. State and store
+/// are those of takes until one finds no span.
+fn acknowledged(held: &[u8]) -> (Vec<u8>, Scanner, [u8; 80]) {
+    let (mut store, mut work, mut out) = ([0; 80], [0xEE; 80], [0xEE; 88]);
+    let mut s = Scanner::open(70, &mut store).unwrap();
+    s.push(&mut store, held).unwrap();
+    let (mut taker, mut taken) = (s, store);
+    while taker.take(&mut taken).unwrap() {}
+    let len = s.acknowledge(&mut store, &mut work, &mut out).unwrap();
+    assert_eq!((s, store, work), (taker, taken, [0; 80]));
+    assert!(out[len..].iter().all(|&b| b == 0xEE));
+    (out[..len].to_vec(), s, store)
+}
+
+#[test]
+fn acknowledgements() {
+    let packed = |data_type, seq, payload: &[u8]| {
+        let mut out = [0; 64];
+        let len = pack(data_type, seq, payload, &mut out).unwrap();
+        out[..len].to_vec()
+    };
+    let acks = |held: &[u8]| acknowledged(held).0;
+    assert_eq!(acks(&DUE), ITS_ACK);
+    assert_eq!(acks(&packed(DataType::DataMdr, 0xC5, &[0x23, 0x3E])), ITS_ACK);
+    // Every type but an ack's own.
+    for byte in 0..=255 {
+        let frame = packed(DataType::from_wire(byte), 0xC5, &[0x3C]);
+        assert_eq!(acks(&frame), if byte == 0x01 { &[][..] } else { &ITS_ACK }, "{byte:02X}");
+    }
+    // Each sequence has the ack of the call that makes one.
+    for seq in 0..=255 {
+        let mut ack_of = [0; 11];
+        let len = ack(seq, &mut ack_of).unwrap();
+        assert_eq!(acks(&packed(DataType::Shot, seq, &[])), ack_of[..len]);
+    }
+    // A raw marker inside is accepted, as by `unpack`.
+    assert_eq!(acks(&[0x3E, 0x00, 0x3E, 0, 0, 0, 0, 0x3E, 0x3C]), [0x3E, 0x01, 0xC3, 0, 0, 0, 0, 0xC4, 0x3C]);
+
+    // Nothing held, noise, no END, and spans that are refused.
+    let mut damaged = DUE;
+    damaged[7] = 0xD2;
+    for held in [&[][..], &[7, 7], &DUE[..8], &[0x3E, 0x3C], &damaged, &[0x3E, 0x0C, 0xC5, 0, 0, 0, 1, 0xD2, 0x3C]] {
+        assert_eq!(acks(held), []);
+    }
+
+    // In the order of the spans, with noise, an ack and a damaged frame between, and what stays as after a take.
+    let (first, second) = (packed(DataType::DataMdr, 1, &[0x23]), packed(DataType::DataMdrNo2, 0, &[]));
+    let held = [&[7, 7], &first[..], &ITS_ACK, &[7], &second, &damaged, &DUE, &[7, 0x3E, 1, 2]].concat();
+    let (written, s, store) = acknowledged(&held);
+    let others = [0x3E, 0x01, 0, 0, 0, 0, 0, 0x01, 0x3C, 0x3E, 0x01, 1, 0, 0, 0, 0, 0x02, 0x3C];
+    assert_eq!(written, [&others[..], &ITS_ACK].concat());
+    assert_eq!((s.count, counts(&s), store[..4].to_vec()), (3, [55, 48, 4], vec![0x3E, 1, 2, 0]));
+
+    // Behind the last span a START whose END does not come within the limit goes too.
+    let (mut store, mut work, mut out) = ([0; 32], [0xEE; 32], [0xEE; 11]);
+    let mut s = Scanner::open(9, &mut store).unwrap();
+    s.push(&mut store, &[&DUE[..], &[7, 0x3E, 1, 1, 1, 1, 1, 1, 1, 1, 1]].concat()).unwrap();
+    assert_eq!(s.acknowledge(&mut store, &mut work, &mut out), Ok(11));
+    assert_eq!((s.count, counts(&s), store, work, out), (0, [20, 9, 11], [0; 32], [0; 32], ITS_ACK));
+}
+
+/// 18 leaves all but the work area; 1 to 3 and 6, which come before it, leave that too.
+#[test]
+fn acknowledgements_without_room() {
+    // Seven frames fill the store: an output of 11 bytes for each 9 takes their acks, and one less does not.
+    let (mut store, mut out) = ([0; 63], [0xEE; 77]);
+    let mut s = Scanner::open(62, &mut store).unwrap();
+    s.push(&mut store, &DUE.repeat(7)).unwrap();
+    let before = (s, store);
+    for room in [0, 1, 66, 76] {
+        let mut work = [0xEE; 63];
+        assert_eq!(s.acknowledge(&mut store, &mut work, &mut out[..room]), Err(Refusal::OutputTooShort));
+        assert_eq!(((s, store), work, out), (before, [0; 63], [0xEE; 77]));
+    }
+    let mut work = [0xEE; 63];
+    for room in [0, 77] {
+        for (other, store_len, work_len, refusal) in [
+            (Scanner { limit: 8, count: 64, ..s }, 63, 62, Refusal::LimitOutOfRange),
+            (Scanner { count: 64, ..s }, 62, 62, Refusal::StoreTooShort),
+            (Scanner { count: 64, ..s }, 63, 62, Refusal::HeldBeyondStore),
+            (s, 63, 62, Refusal::WorkTooShort),
+        ] {
+            let mut state = other;
+            assert_eq!(state.acknowledge(&mut store[..store_len], &mut work[..work_len], &mut out[..room]), Err(refusal));
+            assert_eq!((state, store, work, out), (other, before.1, [0xEE; 63], [0xEE; 77]));
+        }
+    }
+    assert_eq!(s.acknowledge(&mut store, &mut work, &mut out), Ok(77));
+    assert_eq!((s.count, store, work), (0, [0; 63], [0; 63]));
+    assert_eq!(out[..], ITS_ACK.repeat(7));
+    // Where none is due no output is needed.
+    s.push(&mut store, &[7, 0x3E, 0x3C, 7]).unwrap();
+    assert_eq!(s.acknowledge(&mut store, &mut work, &mut []), Ok(0));
+    assert_eq!((s.count, counts(&s)), (0, [67, 65, 2]));
+}
+
+/// 27 is what the takes would carry too far together: none is made, and the work area stays. It comes behind 18.
+#[test]
+fn acknowledgements_at_the_greatest() {
+    let station = |written: usize| {
+        move |s: &mut Scanner, store: &mut [u8]| {
+            let (mut work, mut out) = ([0xEE; 16], [0xEE; 11]);
+            let answer = s.acknowledge(store, &mut work, &mut out[..written]);
+            if answer == Err(Refusal::CountFull) {
+                assert_eq!((work, out), ([0xEE; 16], [0xEE; 11]));
+                if written > 0 {
+                    assert_eq!(s.acknowledge(store, &mut work, &mut out[..written - 1]), Err(Refusal::OutputTooShort));
+                    assert_eq!((work, out), ([0; 16], [0xEE; 11]));
+                }
+            } else {
+                assert_eq!((work, &out[..written]), ([0; 16], &ITS_ACK[..written]));
+            }
+            answer
+        }
+    };
+    let spans = [&[7], &DUE[..], &[7, 0x3E, 0x3C, 7]].concat();
+    at_the_end(&spans, [0, 11, 3], 11, station(11));
+    at_the_end(&spans[10..], [0, 2, 2], 0, station(0));
+    at_the_end(&[7, 0x3E, 1], [0, 0, 1], 0, station(0));
+    at_the_end(&[7, 0x3E, 1, 1, 1, 1, 1, 1, 1, 1, 1], [0, 0, 11], 0, station(0));
+    at_the_end(&[], [0, 0, 0], 0, station(0));
+}
+
 #[test]
 fn lines() {
     let plan = house_plan();
@@ -899,6 +1028,12 @@ fn numbers_that_fit() {
         assert_eq!(told, front(&[2, 1, 0, 3]));
         let told = told_in(room, |v, n| unsafe { sys::mdr_window_push(&mut w, REPORTS[6].as_ptr(), REPORTS[6].len(), v, n) });
         assert_eq!(told, front(&[1, 1, 1, 3]));
+        let (mut s, mut store) = near(&DUE, [GREATEST; 3]);
+        let (mut work, mut out) = ([0; 16], [0; 11]);
+        let told = told_in(room, |v, n| unsafe {
+            sys::mdr_acknowledge(&mut s, store.as_mut_ptr(), 16, work.as_mut_ptr(), 16, out.as_mut_ptr(), 11, v, n)
+        });
+        assert_eq!((told, out), (front(&[11]), ITS_ACK));
     }
 }
 

@@ -34,6 +34,10 @@ spanBytes (some bytes) = bytes
 abbrev pub moving : Took → Moved
 moving t = record { pushed = 0; handed = length (spanBytes (t .span)); dropped = t .dropped }
 
+-- what two calls moved, one after the other
+abbrev pub plus : Moved → Moved → Moved
+plus a b = record { pushed = a .pushed + b .pushed; handed = a .handed + b .handed; dropped = a .dropped + b .dropped }
+
 -- what a take does with the held bytes
 abbrev pub movedOf : ℕ → List ℕ → Moved
 movedOf limit held = moving (takenOf limit held)

@@ -4,4 +4,5 @@ pub mod frames;
 pub mod logging;
 pub mod readings;
 pub mod scans;
+pub mod stations;
 pub mod windows;

@@ -1,4 +1,5 @@
 // Each call, its answer, and the state and the store after it.
+use base::Written;
 use finding::Found;
 use gathering::LinesAnswer;
 use line_call::LineAnswer;
@@ -173,6 +174,31 @@ pub fn all_lines_in(
     let answer = l.answer;
     let scanner = l.scanner;
     let told = ended(text, state.k, ready, answer);
+    let next = areas(text, told, work, out);
+    after(scanner, state.lent, store, text, next)
+}
+
+fn acked(text: &mut [u8], k: usize, a: Written) -> usize {
+    match a {
+        Written::Bytes(n) => {
+            let next = word(text, k, b"acks");
+            number(text, next, n as u64)
+        }
+        Written::Refused(r) => refusal(text, k, r),
+    }
+}
+
+pub fn acknowledge_in(
+    state: State,
+    store: &mut [u8],
+    work: &mut [u8],
+    out: &mut [u8],
+    text: &mut [u8],
+) -> State {
+    let a = acks::acknowledge(state.scanner, store, work, out);
+    let answer = a.answer;
+    let scanner = a.scanner;
+    let told = acked(text, state.k, answer);
     let next = areas(text, told, work, out);
     after(scanner, state.lent, store, text, next)
 }

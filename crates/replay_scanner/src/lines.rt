@@ -1,5 +1,6 @@
 // The cases, one after the other.
 use crate::calls::State;
+use crate::calls::acknowledge_in;
 use crate::calls::all_lines_in;
 use crate::calls::line_in;
 use crate::calls::open_in;
@@ -19,7 +20,7 @@ use replay::number_field;
 use replay::word;
 use scanner::Scanner;
 
-// What is lent to calls: `piece` is the bytes of a push, or the output of lines.
+// What is lent to calls: `piece` is the bytes of a push, or the output of lines or acks.
 pub fn run(input: &[u8]) {
     let mut store = [0u8; 140000];
     let mut piece = [0u8; 140000];
@@ -125,6 +126,7 @@ fn answer(
         ),
         b'l' => one_line(input, at, state, plan, store, piece, work, text),
         b'a' => all_lines(input, at, state, plan, store, piece, work, text),
+        b'c' => station(input, at, state, store, piece, work, text),
         _ => with_place(state, word(text, state.k, b"unknown")),
     }
 }
@@ -214,4 +216,18 @@ fn all_lines(
     let room = lent_part(out, number_field(input, at, 2));
     let under = first(plan, number_field(input, at, 3));
     all_lines_in(state, store, under, area, room, text)
+}
+
+fn station(
+    input: &[u8],
+    at: usize,
+    state: State,
+    store: &mut [u8],
+    out: &mut [u8],
+    work: &mut [u8],
+    text: &mut [u8],
+) -> State {
+    let area = lent_part(work, number_field(input, at, 1));
+    let room = lent_part(out, number_field(input, at, 2));
+    acknowledge_in(state, store, area, room, text)
 }

@@ -12,6 +12,7 @@
 //   k D H          skip D bytes that are dropped and H in spans
 //   l W M P        a line call: the line's length
 //   a W M P        a call for all lines: their length, and what the line call behind them came to
+//   c W M          a station call in such a work area and output: how many bytes the acks have
 mod calls;
 mod lines;
 

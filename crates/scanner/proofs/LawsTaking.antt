@@ -51,7 +51,7 @@ module _ (s : Scanner) (store : List ℕ) where
             (record { pushed = omega (arith, g); handed = omega (arith, f .handed); dropped = omega (arith, f .dropped) }),
       )
 
-  take-refused : {n : ℕ} {vs : List ℕ} → heldOf s store ≡ refused n vs → takeCall s store ≡ refuses n vs s store
+  pub take-refused : {n : ℕ} {vs : List ℕ} → heldOf s store ≡ refused n vs → takeCall s store ≡ refuses n vs s store
   unfolding takeCall
   take-refused e = rw e
 

@@ -1,1 +1,1 @@
-pub mod LawsDraining
+pub mod LawsAdding

@@ -1,5 +1,6 @@
 //! Each function beside the Rust's. On both sides a call is one that the compiler does not inline, on inputs that it does not know.
 use crate::system::processor_time;
+use common::acks;
 use common::bill::{self, Bill};
 use common::choice::Choice;
 use common::frames::{self, framed, house_plan};
@@ -77,6 +78,7 @@ pub fn table() {
     for piece in [64, 4_096] {
         scanners(piece);
     }
+    stations();
     let log = session_log();
     read_lines(&log);
     bill_texts(&log);
@@ -503,6 +505,65 @@ fn spans_65536(bytes: &[u8], piece: usize) -> usize {
         }
     }
     spans
+}
+
+/// Acks of a mixed session of 1 MiB, a call for each piece, for each span. An output of 15,015 bytes is sure to take the acks; for one of 4,096
+/// ours must know their length first.
+fn stations() {
+    let bytes = stream(Kind::Mixed, 2, 1 << 20);
+    let piece = 4_096;
+    let spans = spans_8192(&bytes, piece) as f64;
+    let mut store = vec![0; 12_288];
+    let mut work = vec![0; 12_288];
+    let mut kept = Vec::new();
+    for room in [15_015, 4_096] {
+        let mut out = vec![0; room];
+        assert_eq!(our_acks(&mut store, &mut work, &mut out, &bytes, piece), rust_acks(&mut kept, &bytes, piece));
+        let times = time(
+            |_| {
+                black_box(our_acks(&mut store, &mut work, &mut out, black_box(&bytes), piece));
+            },
+            |_| {
+                black_box(rust_acks(&mut kept, black_box(&bytes), piece));
+            },
+            1,
+        );
+        let sizes = format!("pieces of {piece}, limit 8192, store of {}, output of {room}", store.len());
+        let name = format!("acknowledge, beside `next_raw`, `unpack` and `ack_frame`; {sizes}: a span");
+        row(&name, (times.0 / spans, times.1 / spans));
+    }
+}
+
+/// How many bytes the acks have, and their sum.
+fn our_acks(store: &mut [u8], work: &mut [u8], out: &mut [u8], bytes: &[u8], piece: usize) -> (usize, u8) {
+    let mut values = [0];
+    let (mut len, mut sum) = (0, 0u8);
+    let mut scanner = opened(8_192, store);
+    for piece in bytes.chunks(piece) {
+        assert_eq!(ours::push(&mut scanner, store, piece), 0);
+        assert_eq!(ours::acknowledge(&mut scanner, store, work, out, &mut values), 0);
+        let n = values[0] as usize;
+        sum = sum.wrapping_add(checksum(&out[..n]));
+        len += n;
+    }
+    (len, sum)
+}
+
+fn rust_acks(out: &mut Vec<u8>, bytes: &[u8], piece: usize) -> (usize, u8) {
+    let (mut len, mut sum) = (0, 0u8);
+    let mut scanner = frame_8192::Scanner::new();
+    for piece in bytes.chunks(piece) {
+        scanner.push(piece);
+        out.clear();
+        while let Some(span) = scanner.next_raw() {
+            if let Some(ack) = acks::of_span(&span) {
+                out.extend_from_slice(&ack);
+            }
+        }
+        sum = sum.wrapping_add(checksum(out));
+        len += out.len();
+    }
+    (len, sum)
 }
 
 #[inline(never)]

@@ -50,6 +50,14 @@ pub fn escaped(body: &[u8]) -> Vec<u8> {
     out
 }
 
+/// A frame in which each START of the body stands as it is.
+pub fn raw_starts(mut frame: Vec<u8>) -> Vec<u8> {
+    while let Some(at) = frame.windows(2).position(|two| two == [SENTRY, 0x2E]) {
+        frame.splice(at..at + 2, [START]);
+    }
+    frame
+}
+
 /// A body with a true checksum, and the length that it declares.
 pub fn body(data_type: u8, seq: u8, declared: u32, payload: &[u8]) -> Vec<u8> {
     let mut body = vec![data_type, seq];

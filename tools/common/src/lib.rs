@@ -1,5 +1,6 @@
 //! What the tools share: the choice of cases, frames and streams, why a decoder refuses, and over the Rust original the log of a stream, the
-//! reader of its lines and their bill, and the counts of its last noise reports. Nothing here calls the proved library.
+//! reader of its lines and their bill, the counts of its last noise reports, and the acks of its spans. Nothing here calls the proved library.
+pub mod acks;
 pub mod bill;
 pub mod causes;
 pub mod choice;

@@ -218,6 +218,22 @@ pub fn all_lines(scanner: &mut Scanner, store: &mut [u8], plan: &[u8], work: &mu
     }
 }
 
+pub fn acknowledge(scanner: &mut Scanner, store: &mut [u8], work: &mut [u8], out: &mut [u8], values: &mut [u64]) -> u8 {
+    unsafe {
+        sys::mdr_acknowledge(
+            scanner,
+            store.as_mut_ptr(),
+            store.len(),
+            work.as_mut_ptr(),
+            work.len(),
+            out.as_mut_ptr(),
+            out.len(),
+            values.as_mut_ptr(),
+            values.len(),
+        )
+    }
+}
+
 pub fn read_line(line: &[u8], out: &mut [u8], values: &mut [u64]) -> u8 {
     unsafe { sys::mdr_read_line(line.as_ptr(), line.len(), out.as_mut_ptr(), out.len(), values.as_mut_ptr(), values.len()) }
 }

@@ -1,10 +1,11 @@
-//! Sessions of a scanner beside the Rust's `Scanner`, and their line calls beside the log over its `unpack` and decoders.
+//! Sessions of a scanner beside the Rust's `Scanner`, their line calls beside the log over its `unpack` and decoders, and their station calls
+//! beside its `ack_frame`.
 use crate::case::{Case, Run, Tally, fewer, fewer_in_frame, hex};
 use crate::inputs::{any, any_levels, content, room, setting_texts, strings, values};
 use crate::lent::{Left, Lent, MOST_VALUES, Told, Values, left_difference, told_difference};
 use crate::ranges::is_plan;
 use common::choice::Choice;
-use common::frames::{END, HOUSE, MARKS, START, accepted, damage, every_level, framed, house_plan, name, paired};
+use common::frames::{END, HOUSE, MARKS, SENTRY, START, accepted, damage, every_level, framed, house_plan, name, paired};
 use common::log::Log;
 use original::mdr::frame_any::{LIMIT, Scanner};
 
@@ -37,6 +38,11 @@ enum Op {
         work: isize,
         room: usize,
         fault: Fault,
+    },
+    /// The acks of all spans. The work area's length less the store's; the output's length less that of the acks.
+    Acks {
+        work: isize,
+        out: isize,
     },
     /// The first held bytes go, so many of them counted as dropped and so many as handed over.
     Skip {
@@ -88,6 +94,14 @@ fn passed(count: u64, bytes: usize) -> Option<u8> {
 /// What a take comes to: the span and its length, and how many other bytes go, which stand before the span where there is one.
 struct Next {
     span: Option<Vec<u8>>,
+    handed: usize,
+    dropped: usize,
+}
+
+/// What takes come to until one finds no span: the acks of their spans, the Rust's side then, and how many bytes go.
+struct Takes {
+    acks: Vec<u8>,
+    scanner: Scanner,
     handed: usize,
     dropped: usize,
 }
@@ -152,6 +166,25 @@ impl State<'_> {
         let handed = span.as_ref().map_or(0, Vec::len);
         let dropped = common::counts::dropped(held, span.as_deref(), &copy.buf);
         Next { span, handed, dropped }
+    }
+
+    /// What the Rust's `next_raw` would do, again and again.
+    fn takes(&self) -> Takes {
+        let mut scanner = Scanner::new();
+        scanner.push(&self.scanner.buf);
+        LIMIT.set(self.now.limit);
+        let (mut spans, mut handed, mut dropped) = (vec![], 0, 0);
+        loop {
+            let before = scanner.buf.clone();
+            let span = scanner.next_raw();
+            dropped += common::counts::dropped(&before, span.as_deref(), &scanner.buf);
+            let Some(span) = span else { break };
+            handed += span.len();
+            spans.push(span);
+        }
+        let acks = common::acks::of_spans(&spans);
+        assert!(acks.len() <= self.scanner.buf.len() / 9 * 11);
+        Takes { acks, scanner, handed, dropped }
     }
 
     /// What the store holds once bytes have gone: what stays, at the front, and zeros. They are counted.
@@ -381,6 +414,33 @@ impl State<'_> {
         }
     }
 
+    /// The acks of all spans, which go, or nothing.
+    fn acknowledge(&mut self, work: isize, out: isize) -> Option<String> {
+        let Takes { acks, scanner, handed, dropped } = self.takes();
+        let mut work = Lent::new(self.expected.len().saturating_add_signed(work));
+        let mut out = Lent::new(acks.len().saturating_add_signed(out));
+        let mut values = Values::new(self.session.values);
+        let status = ours::acknowledge(&mut self.states[1], self.store.lend(), work.lend(), out.lend(), values.lend());
+
+        let early = || (work.held().len() < self.expected.len()).then_some(6);
+        let (told, outcome, work_left, out_left) = if let Some(r) = self.refusal().or_else(early) {
+            (Told::refused(r), r, Left::Untouched, Left::Untouched)
+        } else if out.held().len() < acks.len() {
+            (Told::refused(18), 18, Left::Zero, Left::Untouched)
+        } else if let Some(r) = self.too_many(dropped, handed) {
+            (Told::refused(r), r, Left::Untouched, Left::Untouched)
+        } else {
+            self.scanner = scanner;
+            self.gone(dropped, handed);
+            let outcome = if acks.is_empty() { b'N' } else { 0 };
+            (Told::accepted(&[acks.len() as u64]), outcome, Left::Zero, Left::Front(acks))
+        };
+        self.tally.add("acknowledge", outcome);
+        self.compare(&told, status, &values)
+            .or_else(|| left_difference("work area", &work_left.whole(&work), &work))
+            .or_else(|| left_difference("output", &out_left.whole(&out), &out))
+    }
+
     fn set(&mut self, state: ours::Scanner) {
         self.now = state;
         self.states[1] = state;
@@ -397,6 +457,7 @@ impl State<'_> {
             Op::Line { work, out, fault } => self.line(*work, *out, *fault).err(),
             Op::LineAll => self.line_all(),
             Op::AllLines { work, room, fault } => self.all_lines(*work, *room, *fault),
+            Op::Acks { work, out } => self.acknowledge(*work, *out),
             Op::Skip { dropped, handed } => self.skip(*dropped, *handed),
             Op::State(state) => {
                 self.set(*state);
@@ -507,6 +568,7 @@ impl Session {
 }
 
 const LINE: Op = Op::Line { work: 0, out: 0, fault: Fault::None };
+const ACKS: Op = Op::Acks { work: 0, out: 0 };
 
 /// Every stream of START, END and 00 of up to seven bytes, whole, and byte by byte; the limit reached and passed; every store length.
 pub fn exhaustive(run: &mut Run) {
@@ -516,7 +578,8 @@ pub fn exhaustive(run: &mut Run) {
             run.case(&Session::of(9, 12, whole));
             let bytewise = stream.iter().flat_map(|&b| [Op::Push(vec![b]), Op::Find, Op::Take]).collect();
             run.case(&Session::of(9, 10, bytewise));
-            run.case(&Session::of(9, 12, vec![Op::Push(stream), LINE, Op::LineAll]));
+            run.case(&Session::of(9, 12, vec![Op::Push(stream.clone()), LINE, Op::LineAll]));
+            run.case(&Session::of(9, 12, vec![Op::Push(stream), ACKS, ACKS]));
         }
     }
     for limit in [9, 10, 63, 64, 65, 254, 255, 256, 257, 8_191, 8_192, 8_193, 65_535, 65_536] {
@@ -560,6 +623,8 @@ pub fn exhaustive(run: &mut Run) {
                         Op::Find,
                         LINE,
                         Op::AllLines { work: 0, room: 9, fault: Fault::None },
+                        Op::Acks { work: -1, out: 0 },
+                        ACKS,
                         Op::Skip { dropped: 1, handed: 0 },
                         Op::Take,
                     ];
@@ -569,6 +634,7 @@ pub fn exhaustive(run: &mut Run) {
         }
     }
     full_counts(run);
+    stations(run);
     // Every room of the output and of the work area round a line's needs.
     for (data_type, command, entry) in HOUSE {
         let frame = framed(data_type, 1, &accepted(&mut Choice::new(4), entry, command));
@@ -625,6 +691,7 @@ fn full_counts(run: &mut Run) {
                     vec![line(-1, 0), line(0, -1), Op::LineAll],
                     vec![all(-1, 9, Fault::None), all(0, 9, Fault::None)],
                     vec![all(0, 20, Fault::Short), all(1, 20, Fault::None)],
+                    vec![Op::Acks { work: -1, out: 0 }, ACKS],
                 ] {
                     run.case(&Session::of(9, 12, [&begin[..], &calls].concat()));
                 }
@@ -637,6 +704,55 @@ fn full_counts(run: &mut Run) {
                 let counts = [NONE, below_greatest(room[0].into()), below_greatest(room[1].into())];
                 let ops = vec![Op::Push(vec![0; held]), Op::Counts(counts), Op::Skip { dropped, handed }];
                 run.case(&Session::of(9, 12, ops));
+            }
+        }
+    }
+}
+
+/// Station calls: every type with every sequence, each byte at each place of a frame, every room of the output and round that of the work area,
+/// a START behind the last span that the limit clears or not, and counts that each byte of the takes could pass.
+fn stations(run: &mut Run) {
+    for data_type in 0..=255 {
+        let ops = (0..=255).flat_map(|seq| [Op::Push(framed(data_type, seq, &[])), ACKS]).collect();
+        run.case(&Session::of(64, 65, ops));
+    }
+    let frames = [0xC2, 0xC6, 0xC4].map(|seq| framed(0x0C, seq, &[]));
+    let frame = framed(0x0E, 0xC5, &[0x23, END, SENTRY]);
+    for at in 0..frame.len() {
+        for b in 0..=255 {
+            let mut changed = frame.clone();
+            changed[at] = b;
+            let held = [&frames[0][..], &changed, &frames[1]].concat();
+            run.case(&Session::of(64, 70, vec![Op::Push(held), Op::Acks { work: 0, out: -1 }, ACKS]));
+        }
+    }
+    // Acks of 9, 10 and 11 bytes, among other spans and other bytes.
+    let held =
+        [&[0][..], &frames[0], &framed(0x01, 1, &[]), &frames[1], &[START, 0, END, 0, 0], &frames[2], &[0, START, 0]].concat();
+    for out in -31..=3 {
+        for work in [-70, -1, 0, 1] {
+            let ops = vec![Op::Push(held.clone()), Op::Acks { work, out }, Op::TakeAll];
+            run.case(&Session::of(40, 70, ops));
+        }
+    }
+    let [handed, dropped] = [9 + 9 + 9 + 3 + 9, 1 + 2 + 1];
+    for handed in 0..=handed + 1 {
+        for dropped in 0..=dropped + 1 {
+            let counts = [u64::MAX, below_greatest(handed), below_greatest(dropped)];
+            let begin = [Op::Push(held.clone()), Op::Counts(counts)];
+            for calls in
+                [vec![Op::Acks { work: -1, out: -1 }, Op::Acks { work: 0, out: -1 }, ACKS], vec![Op::Take, ACKS, Op::TakeAll]]
+            {
+                run.case(&Session::of(40, 70, [&begin[..], &calls].concat()));
+            }
+        }
+    }
+    for limit in [9, 10, 63, 64, 65, 255, 256, 257, 8_191, 8_192, 8_193, 65_535, 65_536] {
+        for before in [&[][..], &[0, 0], &frames[2], &held] {
+            for n in limit - 1..=limit + 1 {
+                let open = [before, &[START], &vec![0; n - 1]].concat();
+                let ops = vec![Op::Push(open), ACKS, Op::Push(vec![END]), ACKS, Op::Push(frames[2].clone()), ACKS];
+                run.case(&Session::of(limit, limit + 70, ops));
             }
         }
     }
@@ -726,7 +842,7 @@ fn skipped(c: &mut Choice, store: usize) -> usize {
 
 /// What the caller does after a push.
 fn next_op(c: &mut Choice, limit: usize, store: usize, other_counts: bool) -> Option<Op> {
-    match c.below(40) {
+    match c.below(45) {
         0..3 => Some(Op::Take),
         3..6 => Some(Op::Find),
         6..9 => Some(Op::TakeAll),
@@ -742,6 +858,8 @@ fn next_op(c: &mut Choice, limit: usize, store: usize, other_counts: bool) -> Op
             Some(Op::State(ours::Scanner { limit: other, count: c.below(store + 2), pushed, handed, dropped }))
         }
         34..38 if other_counts => Some(Op::Counts(counts(c))),
+        40..43 => Some(ACKS),
+        43 | 44 => Some(Op::Acks { work: room(c), out: room(c) }),
         33 => {
             let n = c.below(30);
             Some(Op::Store { at: c.below(store + 1), bytes: content(c, n) })

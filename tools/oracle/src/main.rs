@@ -1,5 +1,6 @@
-//! Prints the case lists of the replay programs, of `inlog`, of `tally`, of `bill` and of `modes`, and the answers that the Rust original
-//! gives.
+//! Prints the case lists of the replay programs, of `inlog`, of `tally`, of `bill`, of `modes` and of `station`, and the answers that the Rust
+//! original gives.
+mod acks;
 mod again;
 mod bill_program;
 mod bills;
@@ -13,6 +14,7 @@ mod modes;
 mod payloads;
 mod ranges;
 mod scanners;
+mod station;
 mod tally;
 mod text;
 mod windows;
@@ -35,6 +37,7 @@ fn main() {
         Some("window") => bytes(windows::list()),
         Some("range") => bytes(ranges::list()),
         Some("modes") => modes::list(),
+        Some("station") => station::list(),
         _ => usage(),
     };
     let printed = match words.get(1).map(String::as_str) {
@@ -50,6 +53,8 @@ fn bytes(list: text::List) -> (Vec<u8>, Vec<u8>) {
 }
 
 fn usage() -> ! {
-    eprintln!("usage: oracle frame|scanner|payload|log|lines|again|inlog|tally|bill|bill_program|window|range|modes cases|answers");
+    eprintln!(
+        "usage: oracle frame|scanner|payload|log|lines|again|inlog|tally|bill|bill_program|window|range|modes|station cases|answers"
+    );
     std::process::exit(2)
 }

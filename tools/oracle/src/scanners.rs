@@ -1,4 +1,5 @@
 //! Cases for `scanner`: the Rust's `Scanner` with `MAX_BUFFER` set to the limit, and lines of its spans under the house plan.
+use crate::acks;
 use crate::text::{Choice, List, field, lent, over, shown};
 use common::counts;
 use common::frames::{END, HOUSE, START, framed, house_plan};
@@ -8,16 +9,16 @@ use original::mdr::{frame, frame_any};
 const LIMITS: [usize; 5] = [9, 10, 64, 8_192, 65_536];
 
 /// Bytes pushed, handed over and dropped.
-type Counts = [u64; 3];
+pub type Counts = [u64; 3];
 
 /// The most that a count can be.
-const GREATEST: u64 = 18_446_744_073_709_551_615;
+pub const GREATEST: u64 = 18_446_744_073_709_551_615;
 
 /// The house plan's length.
 const PLAN: usize = 512;
 
 /// Counts with so much room.
-fn with_room(pushed: u64, handed: u64, dropped: u64) -> Counts {
+pub fn with_room(pushed: u64, handed: u64, dropped: u64) -> Counts {
     [pushed, handed, dropped].map(|room| GREATEST - room)
 }
 
@@ -38,6 +39,10 @@ pub fn list() -> List {
     full_skips(&mut s);
     lower_first(&mut s);
     any_calls(&mut s);
+    acks::cases(&mut s);
+    for r in ["6", "18", "27"] {
+        assert!(s.list.answers.contains(&format!("refused {r} ")), "no case is refused by {r}");
+    }
     s.list
 }
 
@@ -59,7 +64,7 @@ macro_rules! with {
 }
 
 /// The span, if one is taken, and what is held afterwards. A piece is pushed; with none, the next span is taken.
-fn rust(limit: usize, held: &[u8], piece: Option<&[u8]>) -> (Option<Vec<u8>>, Vec<u8>) {
+pub fn rust(limit: usize, held: &[u8], piece: Option<&[u8]>) -> (Option<Vec<u8>>, Vec<u8>) {
     if limit == frame::MAX_BUFFER {
         return with!(frame, held, piece);
     }
@@ -67,14 +72,14 @@ fn rust(limit: usize, held: &[u8], piece: Option<&[u8]>) -> (Option<Vec<u8>>, Ve
     with!(frame_any, held, piece)
 }
 
-/// A scanner and its store, as the calls leave them.
+/// A scanner and its store, as the calls leave them; `acks.rs` goes on with station calls.
 #[derive(Default)]
-struct Session {
-    list: List,
-    limit: usize,
-    count: usize,
+pub struct Session {
+    pub list: List,
+    pub limit: usize,
+    pub count: usize,
     counts: Counts,
-    store: Vec<u8>,
+    pub store: Vec<u8>,
 }
 
 /// What a take comes to: the span, how many bytes go beside it, and what is held then.
@@ -89,7 +94,7 @@ impl Session {
     // what the store holds, are computed here.
 
     /// Refusals 1 to 3, the lowest first.
-    fn refused(&self) -> Option<u8> {
+    pub fn refused(&self) -> Option<u8> {
         if !(9..=65_536).contains(&self.limit) {
             Some(1)
         } else if self.store.len() < self.limit + 1 {
@@ -102,7 +107,7 @@ impl Session {
     }
 
     /// Refusal 27: what is added to a count is more than it has room for.
-    fn full(&self, adds: Counts) -> Option<u8> {
+    pub fn full(&self, adds: Counts) -> Option<u8> {
         self.counts.iter().zip(adds).any(|(count, n)| GREATEST - count < n).then_some(27)
     }
 
@@ -112,13 +117,13 @@ impl Session {
         }
     }
 
-    fn answer(&mut self, case: String, answer: String) {
+    pub fn answer(&mut self, case: String, answer: String) {
         let [pushed, handed, dropped] = self.counts;
         let state = format!("{} {pushed} {handed} {dropped} {}", self.count, shown(&self.store));
         self.list.add(case, format!("{} {state}", answer.trim_end()));
     }
 
-    fn open(&mut self, limit: usize, n: usize) {
+    pub fn open(&mut self, limit: usize, n: usize) {
         (self.limit, self.count, self.counts, self.store) = (limit, 0, [0; 3], lent(n));
         let answer = match self.refused() {
             Some(r) => format!("refused {r}"),
@@ -130,14 +135,14 @@ impl Session {
         self.answer(format!("o {limit} {n}"), answer);
     }
 
-    fn set(&mut self, limit: usize, count: usize, counts: Counts) {
+    pub fn set(&mut self, limit: usize, count: usize, counts: Counts) {
         (self.limit, self.count, self.counts) = (limit, count, counts);
         let [pushed, handed, dropped] = counts;
         self.list.add(format!("s {limit} {count} {pushed} {handed} {dropped}"), "set".into());
     }
 
     /// The counts alone are others.
-    fn recount(&mut self, counts: Counts) {
+    pub fn recount(&mut self, counts: Counts) {
         self.set(self.limit, self.count, counts);
     }
 
@@ -157,11 +162,11 @@ impl Session {
         self.answer(case, answer);
     }
 
-    fn push(&mut self, piece: &[u8]) {
+    pub fn push(&mut self, piece: &[u8]) {
         self.pushed(format!("b {}", field(piece)), piece);
     }
 
-    fn copies(&mut self, n: usize, b: u8) {
+    pub fn copies(&mut self, n: usize, b: u8) {
         self.pushed(format!("n {n} {b}"), &vec![b; n]);
     }
 
@@ -175,7 +180,7 @@ impl Session {
     }
 
     /// What stays, at the front of the store, and zeros.
-    fn keep(&mut self, held: Vec<u8>, adds: Counts) {
+    pub fn keep(&mut self, held: Vec<u8>, adds: Counts) {
         self.add(adds);
         self.count = held.len();
         let n = self.store.len();
@@ -184,7 +189,7 @@ impl Session {
     }
 
     /// Whether a span was taken.
-    fn take(&mut self) -> bool {
+    pub fn take(&mut self) -> bool {
         if let Some(r) = self.refused() {
             self.answer("t".into(), format!("refused {r} . refused {r}"));
             return false;
@@ -459,7 +464,7 @@ fn held() -> [Vec<u8>; 11] {
 }
 
 /// Rooms below what is added, at it and above it, and the least.
-fn rooms(adds: u64) -> Vec<u64> {
+pub fn rooms(adds: u64) -> Vec<u64> {
     let mut rooms = vec![0, 1, adds.saturating_sub(1), adds, adds + 1];
     rooms.sort();
     rooms.dedup();

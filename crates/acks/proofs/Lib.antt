@@ -1,0 +1,2 @@
+pub mod LawsAcks
+pub mod LawsStation

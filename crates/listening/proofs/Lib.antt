@@ -1,0 +1,3 @@
+pub mod LawsListening
+pub mod Stations
+pub mod Cases
