@@ -51,8 +51,7 @@ enum mdr_refusal {
     MDR_WRONG_LENGTH = 26,      /* a served kind whose bytes run out, are too many, or do not match a count */
     MDR_COUNT_FULL = 27,        /* a count of the scanner's would pass 18446744073709551615 */
     MDR_BILL_OUT_OF_RANGE = 28, /* a tax above 1000, or a line count above 4294967295 */
-    MDR_LEVEL_TOO_HIGH = 29,    /* a battery level above 100 */
-    MDR_HELD_ABOVE_LIMIT = 30   /* more bytes are held than the new limit */
+    MDR_LEVEL_TOO_HIGH = 29     /* a battery level above 100 */
 };
 
 /* ---- frames ---- */
@@ -131,13 +130,6 @@ uint8_t mdr_take(struct mdr_scanner *scanner, uint8_t *store, size_t store_len, 
  * the first `dropped` of these as dropped. What stays is left as by mdr_take. For a caller that has read spans where they stand: `dropped`
  * is the sum of what stood before and between them, `handed` that of their lengths. Refused by 27 where either count would be too high. */
 uint8_t mdr_skip(struct mdr_scanner *scanner, uint8_t *store, size_t store_len, size_t dropped, size_t handed);
-
-/* The limit becomes `limit`. The held bytes, the counts and the store stay. Refused by 1, then by 2, each tried for the old limit and for
- * the new one, then by 3, then by 30 where more bytes are held than the new limit; refused, nothing changes.
- *
- * 30 can refuse a raise too: with limit 9 and fifteen bytes of noise held, a change to 14. So drain first, by mdr_take or line calls until
- * one finds no span: then at most the old limit is held, and no raise to 65536 or less that the store has room for is refused. */
-uint8_t mdr_change_limit(struct mdr_scanner *scanner, const uint8_t *store, size_t store_len, size_t limit);
 
 /* [0] no START among the bytes; [1, offset] a START and no END behind it; [2, offset, length] of the first span. Takes any bytes, so
  * that spans can be read where they stand, one behind the other, and then skipped together. Never refuses: the status is 0. */
@@ -270,9 +262,8 @@ bool mdr_plan_fine(const uint8_t *plan, size_t plan_len);
  * shorter than the store, is zero after both. Refused (1, 2, 3, 5, 6, then 27 where mdr_take is), nothing changes; refused by 7, which is
  * tried last, `work` is zero and nothing else changes. No line depends on the counts.
  *
- * How large an output never refuses: after an accepted mdr_open and any list of pushes, line calls and changes of the limit, with a fine
- * plan, a work area as long as the store and an output of four times the store's length, no line call is refused (`never-refused` in
- * crates/log/proofs/Sizes). */
+ * How large an output never refuses: after an accepted mdr_open and any list of pushes and line calls, with a fine plan, a work area as
+ * long as the store and an output of four times the store's length, no line call is refused (`never-refused` in crates/log/proofs/Sizes). */
 uint8_t mdr_line(struct mdr_scanner *scanner, uint8_t *store, size_t store_len, const uint8_t *plan, size_t plan_len, uint8_t *work,
                  size_t work_len, uint8_t *out, size_t out_len, uint64_t *values, size_t values_len);
 

@@ -43,8 +43,6 @@ pub enum Refusal {
     BillOutOfRange,
     /// a battery level above 100
     LevelTooHigh,
-    /// a change to a limit below the number of bytes held
-    HeldAboveLimit,
     /// a status of a later library, which this crate has no name for
     Unlisted(u8),
 }
@@ -83,7 +81,6 @@ impl Refusal {
             27 => Refusal::CountFull,
             28 => Refusal::BillOutOfRange,
             29 => Refusal::LevelTooHigh,
-            30 => Refusal::HeldAboveLimit,
             other => Refusal::Unlisted(other),
         }
     }
@@ -120,7 +117,6 @@ impl Refusal {
             Refusal::CountFull => 27,
             Refusal::BillOutOfRange => 28,
             Refusal::LevelTooHigh => 29,
-            Refusal::HeldAboveLimit => 30,
             Refusal::Unlisted(number) => number,
         }
     }
@@ -162,7 +158,6 @@ impl std::fmt::Display for Refusal {
             Refusal::CountFull => write!(f, "a count of bytes would pass 18446744073709551615"),
             Refusal::BillOutOfRange => write!(f, "the tax is above 1000, or a line count above 4294967295"),
             Refusal::LevelTooHigh => write!(f, "a battery level is above 100"),
-            Refusal::HeldAboveLimit => write!(f, "more bytes are held than the new limit"),
             Refusal::Unlisted(number) => write!(f, "refused by {number}, for which there is no name here"),
         }
     }
@@ -375,14 +370,6 @@ impl Scanner {
     /// they have together. As many held bytes go and are counted so; where fewer are held, all of them, the first `dropped` as dropped.
     pub fn skip(&mut self, store: &mut [u8], dropped: usize, handed: usize) -> Result<(), Refusal> {
         accepted(unsafe { sys::mdr_skip(self, store.as_mut_ptr(), store.len(), dropped, handed) }, &[])
-    }
-
-    /// The limit changes, and nothing else does. Refused by `LimitOutOfRange`, then by `StoreTooShort`, each tried for the old limit and
-    /// for the new one, then by `HeldBeyondStore`, then by `HeldAboveLimit`, which can refuse a raise too. So drain first, by `take` or line
-    /// calls until one finds no span: then at most the old limit is held, and no raise to 65536 or less that the store has room for is
-    /// refused.
-    pub fn change_limit(&mut self, store: &[u8], limit: usize) -> Result<(), Refusal> {
-        accepted(unsafe { sys::mdr_change_limit(self, store.as_ptr(), store.len(), limit) }, &[])
     }
 
     /// The length of the next span's line, written to the front of `out`, or none where no span is held. From an accepted opening

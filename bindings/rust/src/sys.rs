@@ -58,7 +58,6 @@ unsafe extern "C" {
     pub fn mdr_find(scanner: *const Scanner, store: *const u8, store_len: usize, values: *mut u64, values_len: usize) -> u8;
     pub fn mdr_take(scanner: *mut Scanner, store: *mut u8, store_len: usize, values: *mut u64, values_len: usize) -> u8;
     pub fn mdr_skip(scanner: *mut Scanner, store: *mut u8, store_len: usize, dropped: usize, handed: usize) -> u8;
-    pub fn mdr_change_limit(scanner: *mut Scanner, store: *const u8, store_len: usize, limit: usize) -> u8;
     pub fn mdr_seek(bytes: *const u8, bytes_len: usize, values: *mut u64, values_len: usize) -> u8;
 
     pub fn mdr_message(payload: *const u8, payload_len: usize, values: *mut u64, values_len: usize) -> u8;

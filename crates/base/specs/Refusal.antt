@@ -2,7 +2,7 @@
 use Rattle.std.specs.Prelude.{ℕ, List, [], ◌∷◌}
 use Rattle.base.specs.Outcome.{Outcome, refused}
 use Rattle.base.specs.declared.refusal.Refusal.{Refusal}
-use Rattle.base.specs.declared.refusal.Refusal.TheVariants.{LimitOutOfRange, StoreTooShort, HeldBeyondStore, StoreFull, BadPlan, WorkTooShort, LineTooLong, TooShort, NoStart, NoEnd, NoRoom, TrailingSentry, BadEscapee, BodyTooShort, BadChecksum, LengthMismatch, PayloadTooLong, OutputTooShort, OtherMessage, TooFewRecords, NoSuchDevice, StepZero, NotText, NotALine, WrongKind, WrongLength, CountFull, BillOutOfRange, LevelTooHigh, HeldAboveLimit}
+use Rattle.base.specs.declared.refusal.Refusal.TheVariants.{LimitOutOfRange, StoreTooShort, HeldBeyondStore, StoreFull, BadPlan, WorkTooShort, LineTooLong, TooShort, NoStart, NoEnd, NoRoom, TrailingSentry, BadEscapee, BodyTooShort, BadChecksum, LengthMismatch, PayloadTooLong, OutputTooShort, OtherMessage, TooFewRecords, NoSuchDevice, StepZero, NotText, NotALine, WrongKind, WrongLength, CountFull, BillOutOfRange, LevelTooHigh}
 
 -- the number in the list, and the values that the list names: the escapee, both sums, both lengths
 abbrev pub listed : Refusal → ℕ × List ℕ
@@ -35,7 +35,6 @@ listed WrongLength = (26, [])
 listed CountFull = (27, [])
 listed BillOutOfRange = (28, [])
 listed LevelTooHigh = (29, [])
-listed HeldAboveLimit = (30, [])
 
 abbrev pub number_of : Refusal → ℕ
 number_of r = (listed r).0

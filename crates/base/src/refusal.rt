@@ -33,7 +33,6 @@ pub enum Refusal {
     CountFull,
     BillOutOfRange,
     LevelTooHigh,
-    HeldAboveLimit,
 }
 
 impl Refusal {
@@ -77,7 +76,6 @@ impl Refusal {
             Refusal::CountFull => 27,
             Refusal::BillOutOfRange => 28,
             Refusal::LevelTooHigh => 29,
-            Refusal::HeldAboveLimit => 30,
         }
     }
 }

@@ -4,13 +4,11 @@ ghost use Rattle.held.specs.Search.{sight_of};
 ghost use Rattle.scanner.specs.Scanner.{open_call, open_told, push_call, push_told};
 ghost use Rattle.scanner.specs.Skipping.{skip_call, skip_told};
 ghost use Rattle.scanner.specs.Taking.{take_call};
-ghost use Rattle.limits.specs.Changing.{change_call, change_told};
 ghost use Rattle.finding.specs.Finding.{find_call};
 ghost use Rattle.telling.specs.Told.{status_of, numbers_of, told};
 ghost use Rattle.numbers.specs.Numbers.{bit_numbers, spot_numbers, sight_numbers};
 
 use answers::{find_told, sight_told, take_told};
-use limits::ChangeAnswer;
 use scanner::{OpenAnswer, PushAnswer, Scanner, SkipAnswer};
 
 // What a call by value comes to, which the exported call stores and returns.
@@ -143,21 +141,4 @@ pub extern "C" fn mdr_skip(
     let p = skipped(*scanner, store, dropped, handed);
     *scanner = p.scanner;
     p.status
-}
-
-fn change_status(answer: ChangeAnswer) -> u8
-    ensures { result ≡ status_of (change_told answer) }
-{
-    match answer {
-        ChangeAnswer::Carried => 0,
-        ChangeAnswer::Refused(r) => r.number(),
-    }
-}
-
-#[unsafe(no_mangle)]
-pub extern "C" fn mdr_change_limit(scanner: &mut Scanner, store: &[u8], limit: usize) -> u8
-    ensures value { result ≡ status_of (change_call scanner.old store.now limit).answer }
-    ensures scanner_after { scanner.new ≡ (change_call scanner.old store.now limit).scanner }
-{
-    change_status(limits::change_limit_mut(scanner, store, limit))
 }

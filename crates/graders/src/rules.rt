@@ -48,7 +48,6 @@ pub fn rule(r: Refusal) {
         Refusal::CountFull => say(b"a count of bytes would pass 18446744073709551615"),
         Refusal::BillOutOfRange => say(b"a tax above 1000 or a line count above 4294967295"),
         Refusal::LevelTooHigh => say(b"a battery level above 100"),
-        Refusal::HeldAboveLimit => say(b"more bytes held than the new limit"),
     }
 }
 

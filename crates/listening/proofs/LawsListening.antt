@@ -1,8 +1,8 @@
 -- The counts after every list of calls with station calls among them, and when a station call is refused. Assumes nothing.
 use Prim.Native.Nat.{ℕ}
-use mathlib.Core.Path.{◌≡◌, refl, ap, ◌∙◌}
+use mathlib.Core.Path.{◌≡◌, refl}
 use mathlib.Core.Bool.{Bool, true, false}
-use mathlib.Core.List.{List, [], ◌∷◌}
+use mathlib.Core.List.{List}
 use mathlib.Core.Option.{Option, some}
 use native.Mathlib.Omega.{arith}
 use lib.Dec.{ltb}
@@ -12,24 +12,23 @@ use Rattle.base.specs.Outcome.{Outcome, accepted, refused}
 use Rattle.cutting.specs.declared.deciding.Moved.{Moved}
 use Rattle.scanner.specs.Scanner.{Effect, open_call}
 use Rattle.scanner.specs.declared.scanner.Scanner.{Scanner}
-use Rattle.scanner.proofs.LawsScanner.{opened_fresh}
 use Rattle.draining.specs.Draining.{drain_call, drained_of}
 use Rattle.draining.proofs.LawsDraining.{goes_drained, drain_gone}
 use Rattle.line_call.proofs.LawsCalls.{Has}
 use Rattle.log.specs.Counts.{State, opened, number_in}
-use Rattle.log.proofs.LawsCounts.{Comes, stays, Sound, Grows, comes_gone, near_gone, counted, first_held, never, comes_limit, all_counts, sound_opened, adds_up}
+use Rattle.log.proofs.LawsCounts.{Comes, stays, Sound, Grows, comes_gone, near_gone, counted, first_held, never, all_counts, sound_opened, adds_up}
 use Rattle.log.proofs.LawsCounts as C
 use Rattle.acks.specs.Acks.{acks_in, take_by, station_call}
 use Rattle.acks.proofs.LawsStation.{whole_stored, station_short, station_long, station_drains}
 use Rattle.listening.specs.Counts.{Call, other, station, next, next_all, refusal_of, moves, did, IsPush, Accounts}
 
 -- a station call comes to its takes, or is refused by 6 or 18
-module _ {room : ℕ} (s : Scanner) (store held : List ℕ) (h : Has s.limit room s store held) (work out : List ℕ) where
+module _ {limit room : ℕ} (s : Scanner) (store held : List ℕ) (h : Has limit room s store held) (work out : List ℕ) where
   abbrev m : Moved
   m = drained_of s.limit held
 
   abbrev By : Option ℕ → Scanner → List ℕ → Type 0
-  By o s' store' = Comes room s store held m o s' store'
+  By o s' store' = Comes limit room s store held m o s' store'
 
   comes_drain : let e = drain_call s store in By (number_in e.answer) e.scanner e.store
   comes_drain = rw (drain_gone s store held h.bytes) (comes_gone s store held h false m (goes_drained s.limit held).0 (goes_drained s.limit held).1)
@@ -48,47 +47,24 @@ module _ {room : ℕ} (s : Scanner) (store held : List ℕ) (h : Has s.limit roo
           rw (station_drains s store work out held h.bytes (ltb-false _ _ f) (ltb-false _ _ g) (whole_stored {xs = acks_in held} {out = out}))
           (taking (drain_call s store).answer (drain_call s store) _ _ comes_drain)
 
--- no change of the limit
-abbrev pub KeepsLimit : Call → Type 0
-KeepsLimit (other c) = C.KeepsLimit c
-KeepsLimit (station work out) = Unit {0}
+module _ {limit room : ℕ} where
+  comes : (t : State) (i : Sound limit room t) (c : Call) → Comes limit room t.scanner t.store i.held (moves t c) (refusal_of t c) (next t c).scanner (next t c).store
+  comes t i (other c) = C.comes t i c
+  comes t i (station work out) = rw (← first_held t i) (comes_station t.scanner t.store i.held i.has work out)
 
-abbrev pub KeepLimit : List Call → Type 0
-KeepLimit [] = Unit {0}
-KeepLimit (c ∷ calls) = KeepsLimit c × KeepLimit calls
+  pub step_counts : (t : State) → Sound limit room t → (c : Call) → Sound limit room (next t c) × Grows t.scanner (next t c).scanner (did t c)
+  step_counts t i c = counted t i (moves t c) (refusal_of t c) (next t c).scanner (next t c).store (comes t i c)
 
-module _ {room : ℕ} where
-  of_station : (t : State) (i : Sound room t) (work out : List ℕ) → let c = station work out in Comes room t.scanner t.store i.held (moves t c) (refusal_of t c) (next t c).scanner (next t c).store
-  of_station t i work out = rw (← first_held t i) (comes_station t.scanner t.store i.held i.has work out)
-
-  pub step_counts : (t : State) → Sound room t → (c : Call) → Sound room (next t c) × Grows t.scanner (next t c).scanner (did t c)
-  step_counts t i (other c) = C.step_counts t i c
-  step_counts t i (station work out) =
-      let c = station work out in
-      counted t i (moves t c) (refusal_of t c) (next t c).scanner (next t c).store (of_station t i work out)
-
-  only_push : (t : State) → Sound room t → (c : Call) → refusal_of t c ≡ some 27 → IsPush c
+  only_push : (t : State) → Sound limit room t → (c : Call) → refusal_of t c ≡ some 27 → IsPush c
   only_push t i (other c) e = C.only_push t i c e
   only_push t i (station work out) e =
       let within = goes_drained t.scanner.limit i.held in
-      never t i.held _ _ _ _ (of_station t i work out) (rw (← first_held t i) (near_gone t.scanner t.store i.held i.has i.balanced _ within.0 within.1)) e
-
-  -- the limit stays the opening's where no call changes it
-  step_limit : (t : State) → Sound room t → (c : Call) → KeepsLimit c → (next t c).scanner.limit ≡ t.scanner.limit
-  step_limit t i (other c) k = comes_limit _ _ _ _ _ _ _ (C.comes t i c k)
-  step_limit t i (station work out) k = comes_limit _ _ _ _ _ _ _ (of_station t i work out)
-
-  all_limit : (t : State) → Sound room t → (calls : List Call) → KeepLimit calls → (next_all t calls).scanner.limit ≡ t.scanner.limit
-  all_limit t i [] k = refl
-  all_limit t i (c ∷ calls) k = all_limit (next t c) (step_counts t i c).0 calls k.1 ∙ step_limit t i c k.0
+      never t i.held _ _ _ _ (comes t i (station work out)) (rw (← first_held t i) (near_gone t.scanner t.store i.held i.has i.balanced _ within.0 within.1)) e
 
 -- after every list of calls from an accepted opening
 module _ (limit : ℕ) (store : List ℕ) (fresh : (open_call limit store).answer ≡ accepted tt) where
-  pub sound_run : (calls : List Call) → Sound (length store) (next_all (opened limit store) calls)
+  pub sound_run : (calls : List Call) → Sound limit (length store) (next_all (opened limit store) calls)
   sound_run calls = (all_counts next did step_counts (opened limit store) (sound_opened limit store fresh) calls).0
-
-  pub same_limit : (calls : List Call) → KeepLimit calls → (next_all (opened limit store) calls).scanner.limit ≡ limit
-  same_limit calls k = all_limit (opened limit store) (sound_opened limit store fresh) calls k ∙ ap (λ (s : Scanner). s.limit) (opened_fresh limit store)
 
   pub accounts : (calls : List Call) → Accounts limit store calls
   accounts calls =

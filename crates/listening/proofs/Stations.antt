@@ -24,7 +24,7 @@ use Rattle.acks.specs.Acks.{StationEffect, acks_in, take_by, station_call}
 use Rattle.acks.proofs.LawsAcks.{acks_bound}
 use Rattle.acks.proofs.LawsStation.{whole_stored, station_refused, station_short, station_long, station_drains}
 use Rattle.listening.specs.Counts.{Call, station, next, next_all}
-use Rattle.listening.proofs.LawsListening.{KeepLimit, step_counts, sound_run, same_limit}
+use Rattle.listening.proofs.LawsListening.{step_counts, sound_run}
 
 -- accepted: the output has the acks of the spans of the held bytes, joined, and state and store are those of takes one after the other until one finds none
 pub record Acknowledged (s : Scanner) (store work out : List ℕ) (n : ℕ) (e : StationEffect) : Type 0 where
@@ -84,7 +84,7 @@ module _ (s : Scanner) (store work out : List ℕ) where
       go (accepted held) e = by_room held e (ltb (length work) (length store)) refl (ltb (length out) (length (acks_in held))) refl
 
 -- from a state in which the counts add up
-module _ {room : ℕ} (t : State) (i : Sound room t) (work out : List ℕ) where
+module _ {limit room : ℕ} (t : State) (i : Sound limit room t) (work out : List ℕ) where
   abbrev call : StationEffect
   call = station_call t.scanner t.store work out
 
@@ -99,7 +99,7 @@ module _ {room : ℕ} (t : State) (i : Sound room t) (work out : List ℕ) where
       let fits : length (acks_in held) ≤ length out = omega (arith, acks_bound held, held_length s t.store held e, (admitted s t.store held e).fits, i.has.long) in
       rw (station_drains s t.store work out held e (omega (arith, i.has.long)) fits (whole_stored {xs = acks_in held} {out = out}), drain_gone s t.store held e, counts s m (length (drop (m.dropped + m.handed) held)) near)
 
-  stores : (n : ℕ) → call.answer ≡ accepted n → (piece : List ℕ) → t.scanner.limit + length piece ≤ room
+  stores : (n : ℕ) → call.answer ≡ accepted n → (piece : List ℕ) → limit + length piece ≤ room
       → let u = next t (station work out) in u.scanner.pushed + length piece ≤ GREATEST → (push_call u.scanner u.store piece).answer ≡ accepted tt
   stores n a piece h g =
       let u = next t (station work out) in
@@ -120,8 +120,8 @@ module _ (limit : ℕ) (store : List ℕ) (fresh : (open_call limit store).answe
   pub never_refused : length store ≤ length work → 11 * (length store / 9) ≤ length out → is_accepted answered.answer ≡ true
   never_refused = not_refused after (sound_run limit store fresh calls) work out
 
-  -- behind one that is not refused a piece is stored that is no longer than the store less the limit in force, while the bytes can be counted
-  pub piece_stored : (n : ℕ) → answered.answer ≡ accepted n → (piece : List ℕ) → after.scanner.limit + length piece ≤ length store
+  -- behind one that is not refused a piece is stored that is no longer than the store less the limit, while the bytes can be counted
+  pub piece_stored : (n : ℕ) → answered.answer ≡ accepted n → (piece : List ℕ) → limit + length piece ≤ length store
       → let u = next after (station work out) in u.scanner.pushed + length piece ≤ GREATEST → (push_call u.scanner u.store piece).answer ≡ accepted tt
   piece_stored = stores after (sound_run limit store fresh calls) work out
 
@@ -133,8 +133,3 @@ module _ (store : List ℕ) (size : length store ≡ 12288) (calls : List Call) 
 
   pub station_answers : length work ≡ 12288 → length out ≡ 15015 → is_accepted (answered 8192 store opens calls work out).answer ≡ true
   station_answers w o = never_refused 8192 store opens calls work out (omega arith) (omega arith)
-
-  -- and since it changes no limit, no piece of at most 4,096 bytes behind a station call that was not refused meets 4 or, while the bytes can be counted, 27
-  pub station_stores : KeepLimit calls → (n : ℕ) → (answered 8192 store opens calls work out).answer ≡ accepted n → (piece : List ℕ) → length piece ≤ 4096
-      → let u = next (after 8192 store opens calls work out) (station work out) in u.scanner.pushed + length piece ≤ GREATEST → (push_call u.scanner u.store piece).answer ≡ accepted tt
-  station_stores k n a piece h = piece_stored 8192 store opens calls work out n a piece (omega (arith, same_limit 8192 store opens calls k, size, h))

@@ -7,7 +7,7 @@ use Rattle.log.specs.Counts.{State, opened, through, number_in, unless_refused, 
 use Rattle.log.specs.Counts as C
 use Rattle.acks.specs.Acks.{station_call}
 
--- the calls of C-17's lists, changes of the limit among them, and station calls, each with a work area and an output of its own
+-- the calls of C-17's lists, and station calls, each with a work area and an output of its own
 pub data Call : Type 0 where
   other : C.Call → Call
   station : (work out : List ℕ) → Call

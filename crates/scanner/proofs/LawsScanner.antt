@@ -53,7 +53,7 @@ pub fine : (s : Scanner) (store held : List ℕ) (x : Checked) → checked_told 
 fine s store held x told e = admitted s store held (passed s store held x told e)
 
 -- and the other way: 1 to 3 do not apply
-pub admits : (s : Scanner) (store held : List ℕ) → Admitted s store held → held_of s store ≡ accepted held
+admits : (s : Scanner) (store held : List ℕ) → Admitted s store held → held_of s store ≡ accepted held
 unfolding held_of
 admits s store held a =
     rw (le-ltb s.limit 9 a.low, le-ltb 65536 s.limit a.high, le-ltb (length store) (s.limit + 1) a.room, le-ltb (length store) s.count a.fits, a.first)

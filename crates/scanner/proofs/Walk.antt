@@ -52,17 +52,8 @@ use contract.Monad.{fact_i}
 use denote.RattleType.{RattleType}
 use denote.Laws.{Tells, Makes}
 use denote.Memory.{cell_at}
-pub use denote.Steps.{heard}
-use denote.Steps.{opens, closes}
+use denote.Steps.{heard, opens, closes}
 use denote.Struct.Steps.{spelt}
-
-module _ {M : Type 1} (𝓤 : Ura M) where
-  -- the last `ensures`, and one before others
-  pub last : {φ : Type 0} → φ → ent 𝓤 (emp 𝓤) (fact 𝓤 φ)
-  last {φ} a = fact_i 𝓤 φ (emp 𝓤) a
-
-  pub also : {φ : Type 0} {Q : SProp 𝓤} → φ → ent 𝓤 (emp 𝓤) Q → ent 𝓤 (emp 𝓤) (sep 𝓤 (fact 𝓤 φ) Q)
-  also {φ} {Q} a rest = via 𝓤 Q rest (via 𝓤 (sep 𝓤 (emp 𝓤) Q) (emp∗ 𝓤 Q) (mono_l 𝓤 Q (fact_i 𝓤 φ (emp 𝓤) a)))
 
 module _ {M : Type 1} {𝓤 : Ura M} {𝓛 : Logic 𝓤} {K : Type 0} {Γ : List (Item 𝓤)} where
   open 𝓛 use {H}
@@ -81,20 +72,18 @@ module _ {M : Type 1} {𝓤 : Ura M} {𝓛 : Logic 𝓤} {K : Type 0} {Γ : List
         (‵ (cell_at full_share R.mir vs b o) ∷ ‵ (fobor κ q (Body (mem R) b o γ)) ∷ ‵ (fobs γ u) ∷ ‵ (fauth γ v) ∷ Γ) G
     lent_closes t z R makes h vs is b o = step (λ s. owned t R (Is R) makes h vs is $ move t (1 ∷ 0 ∷ []) $ closes t z R h vs b o $ s)
 
-    -- the first of a callee's `ensures`
-    pub hears : K → (φ : Type 0) {i : Item 𝓤} → (φ → Seq K 𝓛 (i ∷ Γ) G) → Seq K 𝓛 ((raw (fact 𝓤 φ) ⊛ i) ∷ Γ) G
-    hears t φ then = split t $ heard t φ then
-
     -- what a callee's three `ensures` say
     pub heard3 : K → (φ ψ χ : Type 0) → (φ → ψ → χ → Seq K 𝓛 Γ G) → Seq K 𝓛 ((raw (fact 𝓤 φ) ⊛ (raw (fact 𝓤 ψ) ⊛ raw (fact 𝓤 χ))) ∷ Γ) G
-    heard3 t φ ψ χ then = hears t φ (λ a. hears t ψ (λ b. heard t χ (λ c. then a b c)))
+    heard3 t φ ψ χ then = split t $ heard t φ (λ a. split t $ heard t ψ (λ b. heard t χ (λ c. then a b c)))
 
-  -- all that the caller ensures is shown
-  pub says_all : K → {P Q : SProp 𝓤} → ent 𝓤 (emp 𝓤) Q → Step K 𝓛 Γ (prop P) Γ (prop (sep 𝓤 P Q))
-  says_all t {P} {Q} all = step (λ s. record { prf = via 𝓤 P s.prf (via 𝓤 (sep 𝓤 (emp 𝓤) P) (emp∗ 𝓤 P) (via 𝓤 (sep 𝓤 Q P) (mono_l 𝓤 P all) (comm∗ 𝓤 Q P))) })
-
+  -- three `ensures` are shown
   pub says3 : K → {φ ψ χ : Type 0} {P : SProp 𝓤} → φ → ψ → χ → Step K 𝓛 Γ (prop P) Γ (prop (sep 𝓤 P (sep 𝓤 (fact 𝓤 φ) (sep 𝓤 (fact 𝓤 ψ) (fact 𝓤 χ)))))
-  says3 t a b c = says_all t (also 𝓤 a (also 𝓤 b (last 𝓤 c)))
+  says3 t {φ} {ψ} {χ} {P} a b c =
+      let both : SProp 𝓤 = sep 𝓤 (fact 𝓤 ψ) (fact 𝓤 χ) in
+      let all : SProp 𝓤 = sep 𝓤 (fact 𝓤 φ) both in
+      let beside : (ξ : Type 0) (Q : SProp 𝓤) → ξ → ent 𝓤 Q (sep 𝓤 (fact 𝓤 ξ) Q) = λ ξ Q x. via 𝓤 (sep 𝓤 (emp 𝓤) Q) (emp∗ 𝓤 Q) (mono_l 𝓤 Q (fact_i 𝓤 ξ (emp 𝓤) x)) in
+      let said : ent 𝓤 (emp 𝓤) all = via 𝓤 (fact 𝓤 χ) (fact_i 𝓤 χ (emp 𝓤) c) (via 𝓤 both (beside ψ (fact 𝓤 χ) b) (beside φ both a)) in
+      step (λ s. record { prf = via 𝓤 P s.prf (via 𝓤 (sep 𝓤 (emp 𝓤) P) (emp∗ 𝓤 P) (via 𝓤 (sep 𝓤 all P) (mono_l 𝓤 P said) (comm∗ 𝓤 all P))) })
 
   -- a local is freed, whatever it holds
   pub gone : K → {τ : Ty} {b : ℕ} {v : Val} {E : Env 𝓤 H} {g : Goal 𝓤 H} → Step K 𝓛 Γ (frees E g) (‵ (fat full_share τ b zero v) ∷ ‵ (fdies τ b) ∷ Γ) (frees ((τ, b) ∷ E) g)

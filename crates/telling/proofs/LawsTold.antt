@@ -11,7 +11,7 @@ use denote.Enum.Declared.{tag_of}
 use Rattle.base.specs.contracts.refusal.Refusal.{the_type}
 use Rattle.base.specs.Refusal.{listed, number_of, refusal_told}
 use Rattle.base.specs.declared.refusal.Refusal.{Refusal}
-use Rattle.base.specs.declared.refusal.Refusal.TheVariants.{LimitOutOfRange, StoreTooShort, HeldBeyondStore, StoreFull, BadPlan, WorkTooShort, LineTooLong, TooShort, NoStart, NoEnd, NoRoom, TrailingSentry, BadEscapee, BodyTooShort, BadChecksum, LengthMismatch, PayloadTooLong, OutputTooShort, OtherMessage, TooFewRecords, NoSuchDevice, StepZero, NotText, NotALine, WrongKind, WrongLength, CountFull, BillOutOfRange, LevelTooHigh, HeldAboveLimit}
+use Rattle.base.specs.declared.refusal.Refusal.TheVariants.{LimitOutOfRange, StoreTooShort, HeldBeyondStore, StoreFull, BadPlan, WorkTooShort, LineTooLong, TooShort, NoStart, NoEnd, NoRoom, TrailingSentry, BadEscapee, BodyTooShort, BadChecksum, LengthMismatch, PayloadTooLong, OutputTooShort, OtherMessage, TooFewRecords, NoSuchDevice, StepZero, NotText, NotALine, WrongKind, WrongLength, CountFull, BillOutOfRange, LevelTooHigh}
 use Rattle.base.specs.Outcome.{Outcome, accepted}
 use Rattle.telling.specs.Told.{status_of, numbers_of, told}
 
@@ -64,7 +64,7 @@ module _ (a b : ℕ) where
 
 -- the refusals that the last arm of `refuse` is left
 abbrev pub Bare : List ℕ
-Bare = 0 ∷ 1 ∷ 2 ∷ 3 ∷ 4 ∷ 5 ∷ 6 ∷ 7 ∷ 8 ∷ 9 ∷ 10 ∷ 11 ∷ 13 ∷ 16 ∷ 17 ∷ 18 ∷ 19 ∷ 20 ∷ 21 ∷ 22 ∷ 23 ∷ 24 ∷ 25 ∷ 26 ∷ 27 ∷ 28 ∷ 29 ∷ []
+Bare = 0 ∷ 1 ∷ 2 ∷ 3 ∷ 4 ∷ 5 ∷ 6 ∷ 7 ∷ 8 ∷ 9 ∷ 10 ∷ 11 ∷ 13 ∷ 16 ∷ 17 ∷ 18 ∷ 19 ∷ 20 ∷ 21 ∷ 22 ∷ 23 ∷ 24 ∷ 25 ∷ 26 ∷ 27 ∷ 28 ∷ []
 
 pub valueless : (r : Refusal) → OneOf Bare (tag_of the_type r) → (listed r).1 ≡ []
 valueless LimitOutOfRange k = refl
@@ -96,7 +96,6 @@ valueless WrongLength k = refl
 valueless CountFull k = refl
 valueless BillOutOfRange k = refl
 valueless LevelTooHigh k = refl
-valueless HeldAboveLimit k = refl
 
 -- an accepted value, a refusal, and the answer of a callee that tells the same
 module _ {A : Type 0} (f : A → List ℕ) (vs : List ℕ) {o : Outcome A} {ws : List ℕ} where

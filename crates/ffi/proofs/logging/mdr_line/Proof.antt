@@ -10,8 +10,7 @@ use Rattle.scanner.proofs.Walk.{u8, Stays, stay_ref, gave_slice, stay_dropped, w
 use denote.Builtin.{u64}
 use denote.Steps.{heard}
 use denote.Struct.Laws as LL
-use Rattle.scanner.proofs.Walk.{hears, says_all, also, last}
-use Rattle.ffi.proofs.Walk.{mv, sv, status_is, next_is}
+use Rattle.ffi.proofs.Walk.{hears, says_all, also, last, mv, sv, status_is, next_is}
 use Rattle.scanner.specs.declared.scanner.Scanner.{Scanner}
 use Rattle.ffi.specs.declared.scans.Stated.{Stated}
 use Rattle.line_call.specs.LineCall.{LineEffect, line_call}

@@ -37,7 +37,7 @@ use denote.Triple.Table.{entered, cited}
 use denote.Triple.Walked.{Stays, gave_slice, stay_dropped, walk_of, Goes-gave_slice, Goes-dropped, ends_at, walked, walk_Meets}
 use denote.Exit.{yes}
 use Rattle.scanner.proofs.Walk.{gone}
-use Rattle.scanner.proofs.Walk.{hears, says_all, also, last}
+use Rattle.ffi.proofs.Walk.{hears, says_all, also, last}
 use Rattle.support.specs.declared.support.Table.{Table}
 use Rattle.support.specs.declared.support.SupportFunction.{SupportFunction}
 use Rattle.support.specs.declared.support.SupportAnswer.{SupportAnswer}

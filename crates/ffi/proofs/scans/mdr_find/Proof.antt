@@ -15,8 +15,7 @@ use denote.Signature.{shr_ref_to}
 use denote.Steps.{looks, shuts, peeks, heard}
 use denote.Struct.Steps.{spelt}
 use denote.Struct.Laws as LL
-use Rattle.scanner.proofs.Walk.{hears, says_all, also, last}
-use Rattle.ffi.proofs.Walk.{mv}
+use Rattle.ffi.proofs.Walk.{hears, says_all, also, last, mv}
 use Rattle.scanner.specs.declared.scanner.Scanner.{Scanner}
 use Rattle.finding.specs.Finding.{find_call}
 use Rattle.telling.specs.Told.{status_of, numbers_of, told}

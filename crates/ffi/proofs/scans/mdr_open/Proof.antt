@@ -13,8 +13,7 @@ use denote.Plain.{uint_vals, uint_Tells}
 use denote.Builtin.{usize}
 use denote.Steps.{heard}
 use denote.Struct.Laws as LL
-use Rattle.scanner.proofs.Walk.{hears, says_all, also, last}
-use Rattle.ffi.proofs.Walk.{mv, sv, status_is, next_is}
+use Rattle.ffi.proofs.Walk.{hears, says_all, also, last, mv, sv, status_is, next_is}
 use Rattle.scanner.specs.declared.scanner.Scanner.{Scanner}
 use Rattle.ffi.specs.declared.scans.Stated.{Stated}
 use Rattle.scanner.specs.Scanner.{Effect, open_call}

@@ -17,7 +17,7 @@ use denote.Builtin.{u64}
 use denote.Steps.{peeks, heard}
 use denote.Enum.Laws as EL
 use denote.Triple.Walked.{gave_ref, Goes-gave_ref}
-use Rattle.scanner.proofs.Walk.{hears, says_all, also, last}
+use Rattle.ffi.proofs.Walk.{hears, says_all, also, last}
 use Rattle.scanner.specs.declared.scanner.Scanner.{Scanner}
 use Rattle.scanner.specs.declared.taking.TakeAnswer.{TakeAnswer}
 use Rattle.scanner.specs.Taking.{take_call, take_told}

@@ -15,7 +15,7 @@ use denote.Signature.{shr_ref_to}
 use denote.Steps.{looks, shuts, peeks, heard}
 use denote.Struct.Steps.{spelt}
 use denote.Struct.Laws as LL
-use Rattle.scanner.proofs.Walk.{hears, says_all, also, last}
+use Rattle.ffi.proofs.Walk.{hears, says_all, also, last}
 use Rattle.ffi.proofs.WalkWindow.{mv}
 use Rattle.window.specs.declared.window.NoiseWindow.{NoiseWindow}
 use Rattle.window.specs.Window.{counts_of}

@@ -12,7 +12,7 @@ use denote.Plain.{uint_vals, uint_Tells}
 use denote.Builtin.{u64}
 use denote.Steps.{heard}
 use denote.Struct.Laws as LL
-use Rattle.scanner.proofs.Walk.{hears, says_all, also, last}
+use Rattle.ffi.proofs.Walk.{hears, says_all, also, last}
 use Rattle.ffi.proofs.WalkWindow.{mv, sv, status_is, next_is}
 use Rattle.window.specs.declared.window.NoiseWindow.{NoiseWindow}
 use Rattle.window_answers.specs.declared.window_answers.Windowed.{Windowed}

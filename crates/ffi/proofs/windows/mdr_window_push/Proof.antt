@@ -10,7 +10,7 @@ use Rattle.scanner.proofs.Walk.{u8, Stays, stay_ref, gave_slice, stay_dropped, w
 use denote.Builtin.{u64}
 use denote.Steps.{heard}
 use denote.Struct.Laws as LL
-use Rattle.scanner.proofs.Walk.{hears, says_all, also, last}
+use Rattle.ffi.proofs.Walk.{hears, says_all, also, last}
 use Rattle.ffi.proofs.WalkWindow.{mv, sv, status_is, next_is}
 use Rattle.noise.specs.Noise.{noise_of}
 use Rattle.window.specs.declared.window.NoiseWindow.{NoiseWindow}
