@@ -16,7 +16,7 @@ use Rattle.held.specs.declared.search.Sight.{Sight}
 use Rattle.held.specs.declared.search.Sight.TheVariants.{NoStart, NoEnd, Both}
 use Rattle.held.proofs.LawsSearch.{Sees, sees, spot_part, span_length}
 use Rattle.held.proofs.LawsSpans.{holds}
-use Rattle.log.specs.Demand3.{NoneAbove, joined}
+use Rattle.masked_log.specs.Demand3.{NoneAbove, joined}
 use Rattle.acks.specs.declared.acks.Due.{Due}
 use Rattle.acks.specs.declared.acks.Due.TheVariants.{Nothing, Ack}
 use Rattle.acks.specs.Acks.{due_told, due_in, ack_frame, acks_by, acks_of, acks_in, span_ack}

@@ -11,7 +11,7 @@ use Rattle.held.specs.Spans.{spans}
 use Rattle.scanner.specs.Scanner.{Effect, held_of}
 use Rattle.scanner.specs.declared.scanner.Scanner.{Scanner}
 use Rattle.draining.specs.Draining.{drain_call}
-use Rattle.log.specs.Demand3.{joined}
+use Rattle.masked_log.specs.Demand3.{joined}
 use Rattle.acks.specs.declared.acks.Due.{Due}
 use Rattle.acks.specs.declared.acks.Due.TheVariants as D
 

@@ -132,7 +132,7 @@ fn one_line(
 }
 
 fn example(word: Word, given: &[u8], store: &mut [u8], work: &mut [u8], out: &mut [u8]) {
-    let plan = log::house_plan();
+    let plan = masked_log::house_plan();
     say(b"bytes  ");
     bytes(given);
     say(b"\n");

@@ -2,7 +2,7 @@
 use crate::readings::unpacked;
 use crate::rules::refusal;
 use crate::say::{from_to, part, place, say};
-use log::LineAnswer;
+use masked_log::LineAnswer;
 use scanner::{PushAnswer, Scanner, Sight};
 
 // As in `outlog`.
@@ -127,7 +127,7 @@ fn last(
 // The log's line, which ends with a newline.
 fn logged(scanner: Scanner, plan: &[u8], store: &mut [u8], work: &mut [u8], out: &mut [u8]) -> Run {
     say(b"log    ");
-    let lined = log::line(scanner, store, plan, work, out);
+    let lined = masked_log::line(scanner, store, plan, work, out);
     let answer = lined.answer;
     let next = lined.scanner;
     match answer {

@@ -15,9 +15,9 @@ use Rattle.scanner.specs.declared.scanner.Scanner.{Scanner}
 use Rattle.draining.specs.Draining.{drain_call, drained_of}
 use Rattle.draining.proofs.LawsDraining.{goes_drained, drain_gone}
 use Rattle.line_call.proofs.LawsCalls.{Has}
-use Rattle.log.specs.Counts.{State, opened, number_in}
-use Rattle.log.proofs.LawsCounts.{Comes, stays, Sound, Grows, comes_gone, near_gone, counted, first_held, never, all_counts, sound_opened, adds_up}
-use Rattle.log.proofs.LawsCounts as C
+use Rattle.masked_log.specs.Counts.{State, opened, number_in}
+use Rattle.masked_log.proofs.LawsCounts.{Comes, stays, Sound, Grows, comes_gone, near_gone, counted, first_held, never, all_counts, sound_opened, adds_up}
+use Rattle.masked_log.proofs.LawsCounts as C
 use Rattle.acks.specs.Acks.{acks_in, take_by, station_call}
 use Rattle.acks.proofs.LawsStation.{whole_stored, station_short, station_long, station_drains}
 use Rattle.listening.specs.Counts.{Call, other, station, next, next_all, refusal_of, moves, did, IsPush, Accounts}

@@ -18,8 +18,8 @@ use Rattle.scanner.proofs.LawsScanner.{admitted, counts, counts_not, push_stored
 use Rattle.draining.specs.Draining.{takes, drain_call, drained_of}
 use Rattle.draining.proofs.LawsDraining.{went_by, goes_drained, drained_limit, takes_near, drain_gone}
 use Rattle.public.specs.Public.{is_accepted}
-use Rattle.log.specs.Counts.{State, opened}
-use Rattle.log.proofs.LawsCounts.{Sound, near_gone}
+use Rattle.masked_log.specs.Counts.{State, opened}
+use Rattle.masked_log.proofs.LawsCounts.{Sound, near_gone}
 use Rattle.acks.specs.Acks.{StationEffect, acks_in, take_by, station_call}
 use Rattle.acks.proofs.LawsAcks.{acks_bound}
 use Rattle.acks.proofs.LawsStation.{whole_stored, station_refused, station_short, station_long, station_drains}

@@ -3,8 +3,8 @@ use Rattle.std.specs.Prelude.{ℕ, ◌≡◌, List, take as first}
 use Rattle.std.proofs.Math.Option.{Option, some}
 use Rattle.cutting.specs.declared.deciding.Moved.{Moved}
 use Rattle.draining.specs.Draining.{drained_of}
-use Rattle.log.specs.Counts.{State, opened, through, number_in, unless_refused, summed, Adds}
-use Rattle.log.specs.Counts as C
+use Rattle.masked_log.specs.Counts.{State, opened, through, number_in, unless_refused, summed, Adds}
+use Rattle.masked_log.specs.Counts as C
 use Rattle.acks.specs.Acks.{station_call}
 
 -- the calls of C-17's lists, and station calls, each with a work area and an output of its own
