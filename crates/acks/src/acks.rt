@@ -17,7 +17,7 @@ use scanner::{Checked, Counted, Scanner, advance, check};
 const ACK: u8 = 0x01;
 
 // What a span is owed: nothing, or an ack of the frame that came with this sequence.
-#[derive(Drop)]
+#[derive(Clone, Copy)]
 enum Due {
     Nothing,
     Ack(u8),
@@ -133,7 +133,7 @@ fn put_acks(held: &[u8], work: &mut [u8], out: &mut [u8]) -> usize
     }
 }
 
-#[derive(Drop)]
+#[derive(Clone, Copy)]
 pub struct Acked {
     pub answer: Written,
     pub scanner: Scanner,

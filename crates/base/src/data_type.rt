@@ -2,7 +2,7 @@
 ghost use Rattle.std.specs.Prelude.{◌≡◌};
 ghost use Rattle.base.specs.DataType.{from_wire, to_wire};
 
-#[derive(Drop)]
+#[derive(Clone, Copy)]
 pub enum DataType {
     Data,
     Ack,

@@ -1,4 +1,6 @@
 // What everything else stands on: refusals, data types, the checksum, blocks of bytes, and writing to a lent output.
+#![tactic(auto)]
+
 mod block;
 mod data_type;
 mod refusal;

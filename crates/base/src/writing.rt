@@ -5,7 +5,7 @@ ghost use Rattle.base.specs.Writing.{zeroed_from, zeros};
 use crate::refusal::Refusal;
 
 // How many bytes a call wrote, from the front of its output on.
-#[derive(Drop)]
+#[derive(Clone, Copy)]
 pub enum Written {
     Bytes(usize),
     Refused(Refusal),

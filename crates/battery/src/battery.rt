@@ -8,7 +8,7 @@ use reading::OptionByte;
 // A headset that is starting may send more, which is no level.
 const HIGHEST_LEVEL: u8 = 100;
 
-#[derive(Drop)]
+#[derive(Clone, Copy)]
 pub enum Charging {
     No,
     Yes,
@@ -31,7 +31,7 @@ impl Charging {
     }
 }
 
-#[derive(Drop)]
+#[derive(Clone, Copy)]
 pub struct Cell {
     pub level: u8,
     pub charging: Charging,
@@ -39,13 +39,13 @@ pub struct Cell {
     pub threshold: OptionByte,
 }
 
-#[derive(Drop)]
+#[derive(Clone, Copy)]
 pub enum OptionCell {
     Present(Cell),
     Absent,
 }
 
-#[derive(Drop)]
+#[derive(Clone, Copy)]
 pub struct BatteryReport {
     pub main: OptionCell,
     pub left: OptionCell,
@@ -53,7 +53,7 @@ pub struct BatteryReport {
     pub case: OptionCell,
 }
 
-#[derive(Drop)]
+#[derive(Clone, Copy)]
 pub enum BatteryAnswer {
     Report(BatteryReport),
     Refused(Refusal),

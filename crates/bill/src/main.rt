@@ -1,5 +1,7 @@
 // Prints the bill of the log that comes on standard input, at the tax per thousand that is its argument: how many lines of each kind the log has, and net and
 // total in cents.
+#![tactic(auto)]
+
 mod lines;
 mod say;
 mod tax;

@@ -14,7 +14,7 @@ const MOST_LINES: u64 = 4294967295;
 
 const MOST_TAX: u64 = 1000;
 
-#[derive(Drop)]
+#[derive(Clone, Copy)]
 pub enum Billed {
     Bill { net: u64, total: u64 },
     Refused(Refusal),

@@ -1,4 +1,6 @@
 // The bill for a log.
+#![tactic(auto)]
+
 mod billing;
 
 pub use billing::{Billed, bill, bill_text};

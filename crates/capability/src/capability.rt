@@ -6,26 +6,26 @@ ghost use Rattle.capability.specs.Capability.{Reported, capability_told, capabil
 use frame::Refusal;
 use range::AmbientRange;
 
-#[derive(Drop)]
+#[derive(Clone, Copy)]
 pub enum CapabilityAnswer {
     Kind(u8),
     Refused(Refusal),
 }
 
 // The first `count` places of `ranges` are the headset's, the others are zero.
-#[derive(Drop)]
+#[derive(Clone, Copy)]
 pub struct CapabilityReport {
     pub ranges: [AmbientRange; 2],
     pub count: usize,
 }
 
-#[derive(Drop)]
+#[derive(Clone, Copy)]
 pub struct NoiseCapability {
     pub answer: CapabilityAnswer,
     pub report: CapabilityReport,
 }
 
-#[derive(Drop)]
+#[derive(Clone, Copy)]
 enum Element {
     Range(AmbientRange),
     Bad,

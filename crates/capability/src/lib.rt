@@ -1,4 +1,6 @@
 // What a headset says of its ambient levels.
+#![tactic(auto)]
+
 mod capability;
 
 pub use capability::{

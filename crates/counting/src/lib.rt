@@ -1,4 +1,6 @@
 // How many lines of each kind a log has.
+#![tactic(auto)]
+
 mod counting;
 
 pub use counting::{Counted, LineCounts, count_line, count_text, no_lines};

@@ -5,7 +5,7 @@ ghost use Rattle.cutting.specs.Cutting.{cut_of};
 use held::{Sight, seek};
 
 // What a call did with bytes: pushed, in spans handed over, dropped or cleared.
-#[derive(Drop)]
+#[derive(Clone, Copy)]
 pub struct Moved {
     pub pushed: usize,
     pub handed: usize,
@@ -13,7 +13,7 @@ pub struct Moved {
 }
 
 // How many held bytes are dropped, how many go in a span, and whether one does.
-#[derive(Drop)]
+#[derive(Clone, Copy)]
 pub struct Cut {
     pub dropped: usize,
     pub handed: usize,

@@ -4,7 +4,7 @@ ghost use Rattle.decimal.specs.Decimal.{capped, with_digit, number_of, told_numb
 
 use digits::decimal;
 
-#[derive(Drop)]
+#[derive(Clone, Copy)]
 pub enum Decimal {
     Number(u64),
     NotANumber,
@@ -43,7 +43,7 @@ pub fn read_decimal(text: &[u8]) -> Decimal
 }
 
 // What the one argument of a program says.
-#[derive(Drop)]
+#[derive(Clone, Copy)]
 pub enum Argument {
     Number(u64),
     Missing,

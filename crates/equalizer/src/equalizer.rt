@@ -4,13 +4,13 @@ ghost use Rattle.equalizer.specs.Equalizer.{eq_told, equalizer_of, steps_of, sha
 
 use frame::Refusal;
 
-#[derive(Drop)]
+#[derive(Clone, Copy)]
 pub enum EqAnswer {
     Report { preset: u8, count: usize },
     Refused(Refusal),
 }
 
-#[derive(Drop)]
+#[derive(Clone, Copy)]
 pub enum EqShape {
     ClearBassAndFive,
     TenBands,

@@ -1,4 +1,6 @@
 // The exported calls, for C and Rust to link.
+#![tactic(auto)]
+
 pub mod bills;
 pub mod frames;
 pub mod logging;

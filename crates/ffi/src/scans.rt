@@ -12,7 +12,7 @@ use answers::{find_told, sight_told, take_told};
 use scanner::{OpenAnswer, PushAnswer, Scanner, SkipAnswer};
 
 // What a call by value comes to, which the exported call stores and returns.
-#[derive(Drop)]
+#[derive(Clone, Copy)]
 pub struct Stated {
     pub status: u8,
     pub scanner: Scanner,

@@ -6,7 +6,7 @@ use frame::Refusal;
 use held::{Sight, seek};
 use scanner::{Checked, Scanner, check};
 
-#[derive(Drop)]
+#[derive(Clone, Copy)]
 pub enum Found {
     At { at: usize, len: usize },
     Nothing,

@@ -1,4 +1,6 @@
 // The first span among a scanner's held bytes, without taking it.
+#![tactic(auto)]
+
 mod finding;
 mod peeking;
 

@@ -1,4 +1,6 @@
 // The MDR wire frame, under one name: data types, checksum, escaping, pack and unpack.
+#![tactic(auto)]
+
 pub use base::{DataType, Refusal, Written, block_end, checksum, wipe, wipe_from};
 pub use escaping::{END, SENTRY, START, escape, escape_fits, escaped_len, unescape};
 pub use framing::{Unpacked, ack, pack, unpack};

@@ -9,7 +9,7 @@ use base::{DataType, Refusal, Written, checksum, wipe, wipe_from};
 use escaping::{END, SENTRY, START, escape, escaped_len, unescape};
 
 // What a frame carried; its payload stands in the work area from offset 6 on.
-#[derive(Drop)]
+#[derive(Clone, Copy)]
 pub enum Unpacked {
     Frame {
         data_type: DataType,

@@ -6,6 +6,8 @@
 //   masked F    an address of stars is taken for one that is gone
 //   frame F     no misreading
 //   sum B       the checksum of the bytes B, and after each of them from the last to the first
+#![tactic(auto)]
+
 mod counts;
 mod levels;
 mod misreadings;

@@ -16,7 +16,7 @@ const NOISE: u8 = 2;
 const PAIRED: u8 = 5;
 
 // The length of a payload in the work area.
-#[derive(Drop)]
+#[derive(Clone, Copy)]
 enum Body {
     Payload(usize),
     NoBody,

@@ -2,7 +2,7 @@
 use crate::say::{byte_at, number, part, place, say};
 use crate::shown::stranger;
 
-#[derive(Drop)]
+#[derive(Clone, Copy)]
 pub enum Word {
     Start,
     Length,
@@ -14,7 +14,7 @@ pub enum Word {
 }
 
 // What is wrong with a line: by a place in it, or by how many digits or bytes it has.
-#[derive(Drop)]
+#[derive(Clone, Copy)]
 pub enum Fault {
     NoBytes,
     NoDigit { at: usize, b: u8 },
@@ -23,7 +23,7 @@ pub enum Fault {
     TooMany { n: usize, most: usize },
 }
 
-#[derive(Drop)]
+#[derive(Clone, Copy)]
 pub enum Given {
     Bytes(usize),
     Wrong(Fault),

@@ -9,7 +9,7 @@ use scanner::{PushAnswer, Scanner, Sight};
 const LIMIT: usize = 8192;
 
 // The scanner, and whether there is more to read.
-#[derive(Drop)]
+#[derive(Clone, Copy)]
 struct Run {
     scanner: Scanner,
     more: bool,

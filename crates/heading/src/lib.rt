@@ -1,4 +1,6 @@
 // A frame's type, sequence and payload length, read without a work area.
+#![tactic(auto)]
+
 mod heading;
 mod pass;
 

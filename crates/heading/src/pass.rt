@@ -8,7 +8,7 @@ use base::{DataType, Refusal};
 use escaping::SENTRY;
 use framing::Unpacked;
 
-#[derive(Drop)]
+#[derive(Clone, Copy)]
 pub struct Pass {
     // the byte before was a SENTRY, and the next one is its escapee
     pub sentry: bool,
@@ -26,7 +26,7 @@ pub struct Pass {
     pub last: u8,
 }
 
-#[derive(Drop)]
+#[derive(Clone, Copy)]
 pub enum Passed {
     More(Pass),
     Refused(Refusal),

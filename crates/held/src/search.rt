@@ -58,7 +58,7 @@ fn position(bytes: &[u8], from: usize, b: u8) -> usize
     i
 }
 
-#[derive(Drop)]
+#[derive(Clone, Copy)]
 pub enum Sight {
     NoStart,
     NoEnd(usize),

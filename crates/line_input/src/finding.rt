@@ -4,7 +4,7 @@ ghost use Rattle.line_input.specs.Finding.{Lies, newline_at, line_end, line_done
 
 use crate::state::{Input, least};
 
-#[derive(Drop)]
+#[derive(Clone, Copy)]
 pub enum Next {
     // It lies in the buffer between these places, its newline included; the last line of all may be without one.
     Line { number: u64, from: usize, to: usize },
@@ -17,7 +17,7 @@ pub enum Next {
     Failed,
 }
 
-#[derive(Drop)]
+#[derive(Clone, Copy)]
 pub struct Step {
     pub next: Next,
     pub input: Input,

@@ -1,4 +1,6 @@
 // The lines of an input of any length, one after the other, in a buffer that the caller lends, each of fewer bytes than the buffer has.
+#![tactic(auto)]
+
 mod filling;
 mod finding;
 mod state;

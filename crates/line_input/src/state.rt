@@ -2,7 +2,7 @@
 ghost use Rattle.std.specs.Prelude.{◌≡◌, min};
 ghost use Rattle.line_input.specs.State.{nothing_read};
 
-#[derive(Drop)]
+#[derive(Clone, Copy)]
 pub struct Input {
     // where the line that has begun stands in the buffer
     pub at: usize,

@@ -1,4 +1,6 @@
 // The counted lists: an equalizer's steps and a headset's functions.
+#![tactic(auto)]
+
 pub use equalizer::{EqAnswer, EqShape, decode_equalizer, equalizer_steps, gain};
 pub use support::{
     SupportAnswer, SupportCheck, SupportFunction, Table, check_support_functions,

@@ -9,7 +9,7 @@ use window::{NoiseWindow, counts, push};
 use window_line::write_counts;
 
 // The window after some reports, how many bytes of lines stand in the output, and whether no print failed.
-#[derive(Drop)]
+#[derive(Clone, Copy)]
 pub struct Lines {
     pub window: NoiseWindow,
     pub ready: usize,
@@ -76,7 +76,7 @@ fn tell_span(lines: Lines, frame: &[u8], plan: &[u8], work: &mut [u8], out: &mut
 }
 
 // How many bytes stand before a span, and how many are in it; none are where there is no span.
-#[derive(Drop)]
+#[derive(Clone, Copy)]
 struct Spot {
     at: usize,
     len: usize,
@@ -94,7 +94,7 @@ fn first_span(held: &[u8]) -> Spot
 }
 
 // The lines, and how many bytes stand before and between the spans, and how many are in them.
-#[derive(Drop)]
+#[derive(Clone, Copy)]
 pub struct Told {
     pub lines: Lines,
     pub dropped: usize,

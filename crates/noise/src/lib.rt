@@ -1,4 +1,6 @@
 // What the noise control does, as a message reports it.
+#![tactic(auto)]
+
 mod noise;
 
 pub use noise::{NoiseAnswer, NoiseMode, NoiseReport, OptionFlag, decode_noise};

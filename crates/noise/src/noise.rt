@@ -5,20 +5,20 @@ ghost use Rattle.noise.specs.Noise.{noise_told, noise_of, noise_report, full_of,
 use frame::Refusal;
 use reading::OptionByte;
 
-#[derive(Drop)]
+#[derive(Clone, Copy)]
 pub enum NoiseMode {
     Off,
     Anc,
     Ambient,
 }
 
-#[derive(Drop)]
+#[derive(Clone, Copy)]
 pub enum OptionFlag {
     Flag(bool),
     NoFlag,
 }
 
-#[derive(Drop)]
+#[derive(Clone, Copy)]
 pub struct NoiseReport {
     pub mode: NoiseMode,
     // kept, since `mode` is Off whenever the effect is off
@@ -30,14 +30,14 @@ pub struct NoiseReport {
     pub adaptive_sensitivity: OptionByte,
 }
 
-#[derive(Drop)]
+#[derive(Clone, Copy)]
 pub enum NoiseAnswer {
     Report(NoiseReport),
     Refused(Refusal),
 }
 
 // The bytes that a layout has beside settled and effect.
-#[derive(Drop)]
+#[derive(Clone, Copy)]
 struct Fields {
     mode: OptionByte,
     switch: OptionByte,

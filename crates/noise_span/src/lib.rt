@@ -1,4 +1,6 @@
 // The noise report that a span holds.
+#![tactic(auto)]
+
 mod noise_span;
 
 pub use noise_span::{NoiseFrame, noise_in};

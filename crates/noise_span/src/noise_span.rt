@@ -6,7 +6,7 @@ use frame::{Unpacked, unpack, wipe};
 use noise::{NoiseAnswer, NoiseReport, decode_noise};
 use plan::entry;
 
-#[derive(Drop)]
+#[derive(Clone, Copy)]
 pub enum NoiseFrame {
     Report(NoiseReport),
     Other,

@@ -1,4 +1,6 @@
 // The devices that a headset is paired with, and the characters of their names.
+#![tactic(auto)]
+
 mod paired;
 
 pub use paired::{PairedDevice, PairedDevices, PairedLookup, decode_paired_devices, paired_device};

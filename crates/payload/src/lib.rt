@@ -1,4 +1,6 @@
 // The payload of a frame: its message, and the readings of fixed length.
+#![tactic(auto)]
+
 mod setting;
 
 pub use battery::{BatteryAnswer, BatteryReport, Cell, Charging, OptionCell, decode_battery};

@@ -10,13 +10,13 @@ const GS_ON: u8 = 0x00;
 
 const GS_OFF: u8 = 0x01;
 
-#[derive(Drop)]
+#[derive(Clone, Copy)]
 pub struct GeneralSettingParam {
     pub slot: u8,
     pub enabled: bool,
 }
 
-#[derive(Drop)]
+#[derive(Clone, Copy)]
 pub enum SettingAnswer {
     Param(GeneralSettingParam),
     Refused(Refusal),

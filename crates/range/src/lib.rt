@@ -1,4 +1,6 @@
 // A range of ambient levels.
+#![tactic(auto)]
+
 mod range;
 
 pub use range::{Admitted, AmbientRange, Narrowed};

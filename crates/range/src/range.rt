@@ -5,7 +5,7 @@ ghost use Rattle.range.specs.Range.{admitted_told, admits_of, narrowed_told, wit
 
 use frame::Refusal;
 
-#[derive(Drop)]
+#[derive(Clone, Copy)]
 pub struct AmbientRange {
     pub voice: bool,
     pub min: u8,
@@ -13,14 +13,14 @@ pub struct AmbientRange {
     pub step: u8,
 }
 
-#[derive(Drop)]
+#[derive(Clone, Copy)]
 pub enum Admitted {
     Yes,
     No,
     Refused(Refusal),
 }
 
-#[derive(Drop)]
+#[derive(Clone, Copy)]
 pub enum Narrowed {
     Range(AmbientRange),
     Empty,

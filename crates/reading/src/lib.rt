@@ -1,4 +1,6 @@
 // What a payload is, and the walk over its counted items: under every reading.
+#![tactic(auto)]
+
 mod items;
 mod message;
 

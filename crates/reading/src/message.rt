@@ -4,13 +4,13 @@ ghost use Rattle.reading.specs.Message.{split_told, split_of, message_body};
 
 use frame::Refusal;
 
-#[derive(Drop)]
+#[derive(Clone, Copy)]
 pub enum OptionByte {
     Byte(u8),
     NoByte,
 }
 
-#[derive(Drop)]
+#[derive(Clone, Copy)]
 pub struct Message {
     pub command: u8,
     pub kind: OptionByte,
@@ -18,7 +18,7 @@ pub struct Message {
     pub len: usize,
 }
 
-#[derive(Drop)]
+#[derive(Clone, Copy)]
 pub enum Split {
     Parts(Message),
     Refused(Refusal),

@@ -1,5 +1,7 @@
 // What the replay programs share: reading the fields of a case, making bytes by a rule, and printing an answer.
 // Every place is tested where it is used, so that nothing here asks anything of its caller.
+#![tactic(auto)]
+
 pub mod answer;
 pub mod cases;
 pub mod records;

@@ -4,7 +4,7 @@ ghost use Rattle.std.specs.Prelude.{◌≤◌};
 use lists::{SupportAnswer, SupportFunction, Table};
 
 // The records after the call, beside its answer.
-#[derive(Drop)]
+#[derive(Clone, Copy)]
 pub struct Decoded {
     pub answer: SupportAnswer,
     pub records: [SupportFunction; 512],

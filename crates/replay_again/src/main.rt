@@ -1,5 +1,7 @@
 // Prints the log of the capture on standard input, an empty line, and the log of the frames that are in the first log's `F` and `S` lines. The limit, the
 // buffers and the pieces are those of `outlog`. Where no frame packs to more than the limit and one byte, the second log is those lines of the first.
+#![tactic(auto)]
+
 mod frames;
 mod logs;
 

@@ -6,6 +6,8 @@
 //   t TAX BYTES       the bill of the text BYTES; behind it the text's line counts, and these once more, counted line by line
 //   m F S H R BYTES   the line BYTES, counted onto these
 //   d BYTES           the number that BYTES are in decimal digits
+#![tactic(auto)]
+
 mod calls;
 mod cases;
 

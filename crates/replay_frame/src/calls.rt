@@ -45,7 +45,7 @@ pub fn cuts_into(src: &[u8], text: &mut [u8], k: usize) -> usize {
 }
 
 // A call that is lent one buffer.
-#[derive(Drop)]
+#[derive(Clone, Copy)]
 pub enum Call {
     Escape,
     Unescape,
@@ -78,7 +78,7 @@ fn count(w: Written) -> usize {
 }
 
 // What is done to a packed frame before it is unpacked.
-#[derive(Drop)]
+#[derive(Clone, Copy)]
 pub enum Damage {
     Nothing,
     At { at: usize, byte: u8 },

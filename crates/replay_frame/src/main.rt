@@ -16,6 +16,8 @@
 //   p M W TYPE SEQ LEN SEED            pack LEN bytes of the rule of SEED into M bytes; if accepted, unpack the frame in W bytes.
 //                                      A TYPE of 256 and more is Unknown(TYPE - 256)
 //   d M W TYPE SEQ LEN SEED AT BYTE    the same with BYTE put at the place AT of the frame; only unpack's answer is printed
+#![tactic(auto)]
+
 mod calls;
 mod lines;
 

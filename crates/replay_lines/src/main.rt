@@ -10,6 +10,8 @@
 //   p M LINE        read the line's first n bytes, for every n below its length; and then all but its first n, for every n up to it
 // Of `c`, `i` and `p` those answers are printed that are not 24, each after its byte or n, and at the end what an output holds that only those had which
 // were refused by 24.
+#![tactic(auto)]
+
 mod calls;
 mod cases;
 mod many;

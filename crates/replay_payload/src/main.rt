@@ -22,6 +22,8 @@
 //   s N L            the reading of letter L of each part of the N bytes, by their sum
 //   d N AT L         the reading of letter L with each part of a text in the text's place, its length byte at AT, by their sum
 //   t N BYTE         the characters of strings of N bytes that begin with BYTE, by their sum: every one of 1 to 3 bytes, some of 4
+#![tactic(auto)]
+
 mod calls;
 mod lines;
 mod outcomes;

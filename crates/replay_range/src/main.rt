@@ -11,6 +11,8 @@
 //                             none
 //   s MIN MAX STEP            all of these of every two pairs of bounds from 0 to 7, and the levels from 0 to 7, by their sum
 //   e MIN MAX STEP            the same with eight bounds and levels from 0 to 255
+#![tactic(auto)]
+
 mod calls;
 mod cases;
 mod narrowing;

@@ -5,7 +5,7 @@ ghost use Rattle.range.specs.Narrowing.{then_within};
 
 use range::{AmbientRange, Narrowed};
 
-#[derive(Drop)]
+#[derive(Clone, Copy)]
 pub struct Pair {
     pub low: u8,
     pub high: u8,

@@ -7,7 +7,7 @@ use replay::{bytes, fill, number, refusal, word};
 use scanner::{OpenAnswer, PushAnswer, Scanner, SkipAnswer, TakeAnswer};
 
 // The scanner, the length of the store that is lent, and the place in the text.
-#[derive(Drop)]
+#[derive(Clone, Copy)]
 pub struct State {
     pub scanner: Scanner,
     pub lent: usize,

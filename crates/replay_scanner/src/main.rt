@@ -13,6 +13,8 @@
 //   l W M P        a line call: the line's length
 //   a W M P        a call for all lines: their length, and what the line call behind them came to
 //   c W M          a station call in such a work area and output: how many bytes the acks have
+#![tactic(auto)]
+
 mod calls;
 mod lines;
 

@@ -5,7 +5,7 @@ use replay::{number, put, refusal, word};
 use window::{NoiseCounts, NoiseWindow, counts, push};
 
 // The window after a call, and the next place of the text.
-#[derive(Drop)]
+#[derive(Clone, Copy)]
 pub struct Step {
     pub window: NoiseWindow,
     pub end: usize,

@@ -6,6 +6,8 @@
 //   w WIDTH LETTERS                         opens a window and hands in what the letters name: its counts at first and behind each letter, off, anc, ambient
 //                                           and level joined by commas; a payload that is refused is told by its refusal, and not handed in
 //   s WIDTH OFF ANC AMBIENT LEVEL LETTERS   the same from a window with these fields, which is not opened; behind the counts its fields at the end
+#![tactic(auto)]
+
 mod calls;
 mod cases;
 

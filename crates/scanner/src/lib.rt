@@ -1,4 +1,6 @@
 // Splits a byte stream into frames: the caller lends the store; the state goes by value, or is lent too.
+#![tactic(auto)]
+
 mod going;
 mod lent;
 mod scanner;

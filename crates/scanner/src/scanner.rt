@@ -7,7 +7,7 @@ use cutting::Moved;
 use frame::{Refusal, wipe_from};
 
 #[repr(C)]
-#[derive(Drop)]
+#[derive(Clone, Copy)]
 pub struct Scanner {
     pub limit: usize,
     pub count: usize,
@@ -29,7 +29,7 @@ pub fn fresh(limit: usize) -> Scanner
     }
 }
 
-#[derive(Drop)]
+#[derive(Clone, Copy)]
 pub enum Counted {
     Next(Scanner),
     Refused(Refusal),
@@ -66,7 +66,7 @@ const LEAST_LIMIT: usize = 9;
 
 const MAX_BUFFER: usize = 65536;
 
-#[derive(Drop)]
+#[derive(Clone, Copy)]
 pub enum Checked {
     Fine,
     Refused(Refusal),
@@ -93,13 +93,13 @@ pub fn check(scanner: Scanner, store: &[u8]) -> Checked
     Checked::Fine
 }
 
-#[derive(Drop)]
+#[derive(Clone, Copy)]
 pub enum OpenAnswer {
     Open,
     Refused(Refusal),
 }
 
-#[derive(Drop)]
+#[derive(Clone, Copy)]
 pub struct Opened {
     pub answer: OpenAnswer,
     pub scanner: Scanner,
@@ -126,13 +126,13 @@ pub fn open(limit: usize, store: &mut [u8]) -> Opened
     }
 }
 
-#[derive(Drop)]
+#[derive(Clone, Copy)]
 pub enum PushAnswer {
     Stored,
     Refused(Refusal),
 }
 
-#[derive(Drop)]
+#[derive(Clone, Copy)]
 pub struct Pushed {
     pub answer: PushAnswer,
     pub scanner: Scanner,

@@ -6,13 +6,13 @@ use crate::going::go;
 use crate::scanner::{Checked, Counted, Scanner, check};
 use frame::Refusal;
 
-#[derive(Drop)]
+#[derive(Clone, Copy)]
 pub enum SkipAnswer {
     Gone,
     Refused(Refusal),
 }
 
-#[derive(Drop)]
+#[derive(Clone, Copy)]
 pub struct Skipped {
     pub answer: SkipAnswer,
     pub scanner: Scanner,

@@ -8,14 +8,14 @@ use crate::scanner::{Checked, Counted, Scanner, check};
 use cutting::decide;
 use frame::Refusal;
 
-#[derive(Drop)]
+#[derive(Clone, Copy)]
 pub enum TakeAnswer {
     Span,
     Nothing,
     Refused(Refusal),
 }
 
-#[derive(Drop)]
+#[derive(Clone, Copy)]
 pub struct Taken {
     pub answer: TakeAnswer,
     pub scanner: Scanner,

@@ -1,4 +1,6 @@
 // What a headset calls a setting: its name and a summary, both as text.
+#![tactic(auto)]
+
 mod setting_info;
 
 pub use setting_info::{

@@ -10,21 +10,21 @@ const GS_BOOLEAN_TYPE: u8 = 0x00;
 const GS_ENUM_NAME: u8 = 0x01;
 
 // A text by its offset in the payload, its length in bytes and its characters.
-#[derive(Drop)]
+#[derive(Clone, Copy)]
 pub struct SettingText {
     pub offset: usize,
     pub len: usize,
     pub characters: usize,
 }
 
-#[derive(Drop)]
+#[derive(Clone, Copy)]
 pub struct GeneralSetting {
     pub slot: u8,
     pub name: SettingText,
     pub summary: SettingText,
 }
 
-#[derive(Drop)]
+#[derive(Clone, Copy)]
 pub enum SettingInfoAnswer {
     Info(GeneralSetting),
     Refused(Refusal),

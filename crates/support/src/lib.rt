@@ -1,4 +1,6 @@
 // The functions that a headset says it supports, as a lent slice of records.
+#![tactic(auto)]
+
 mod support;
 
 pub use support::{

@@ -4,26 +4,26 @@ ghost use Rattle.support.specs.Support.{check_told, check_of, support_told, supp
 
 use frame::Refusal;
 
-#[derive(Drop)]
+#[derive(Clone, Copy)]
 pub enum Table {
     One,
     Two,
 }
 
 #[repr(C)]
-#[derive(Drop)]
+#[derive(Clone, Copy)]
 pub struct SupportFunction {
     pub code: u8,
     pub priority: u8,
 }
 
-#[derive(Drop)]
+#[derive(Clone, Copy)]
 pub enum SupportCheck {
     Count(usize),
     Refused(Refusal),
 }
 
-#[derive(Drop)]
+#[derive(Clone, Copy)]
 pub enum SupportAnswer {
     Functions { table: Table, count: usize },
     Refused(Refusal),
@@ -50,7 +50,7 @@ pub fn check_support_functions(payload: &[u8]) -> SupportCheck
 }
 
 // The answer, and how many of the first places are written.
-#[derive(Drop)]
+#[derive(Clone, Copy)]
 struct Placing {
     answer: SupportAnswer,
     places: usize,

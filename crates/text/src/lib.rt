@@ -1,4 +1,6 @@
 // How many characters bytes are, where they are text by RFC 3629.
+#![tactic(auto)]
+
 mod text;
 
 pub use text::{Characters, count_characters};

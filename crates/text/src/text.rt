@@ -5,7 +5,7 @@ ghost use Rattle.text.specs.Text.{Follower, characters_from, characters_of};
 ghost use Rattle.text.specs.Inner.{onto, follows_at};
 ghost use Rattle.text.specs.declared.text.Characters.TheVariants.{Number, NoText};
 
-#[derive(Drop)]
+#[derive(Clone, Copy)]
 pub enum Characters {
     Number(usize),
     // The bytes are no text.

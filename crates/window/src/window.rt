@@ -9,7 +9,7 @@ use reading::OptionByte;
 
 // Each row has a binary digit for each of the last 64 reports, the newest lowest: 1 where the report was Off, Anc, Ambient, or held a level.
 #[repr(C)]
-#[derive(Drop)]
+#[derive(Clone, Copy)]
 pub struct NoiseWindow {
     pub width: u64,
     pub off: u64,
@@ -18,7 +18,7 @@ pub struct NoiseWindow {
     pub level: u64,
 }
 
-#[derive(Drop)]
+#[derive(Clone, Copy)]
 pub struct NoiseCounts {
     pub off: u64,
     pub anc: u64,

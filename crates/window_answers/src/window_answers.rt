@@ -10,7 +10,7 @@ use telling::{refuse, tell};
 use window::NoiseWindow;
 
 // The window is as the call leaves it.
-#[derive(Drop)]
+#[derive(Clone, Copy)]
 pub struct Windowed {
     pub status: u8,
     pub window: NoiseWindow,
