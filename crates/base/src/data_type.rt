@@ -23,6 +23,7 @@ pub enum DataType {
 }
 
 impl DataType {
+    #[tactic(auto, unfolding(crate::specs::DataType::from_wire))]
     pub fn from_wire(b: u8) -> DataType
         ensures { result ≡ from_wire b }
     {
