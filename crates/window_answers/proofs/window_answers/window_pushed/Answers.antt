@@ -1,0 +1,13 @@
+use mathlib.Core.Path.{refl, sym}
+use Rattle.window_answers.proofs.window_answers.window_pushed.Goals as goal
+
+pub returns-in-Report : goal.returns-in-Report
+returns-in-Report c =
+    let t = c.window_told.ensures in
+    let p = c.push-next.ensures in
+    rw (sym c.decode_noise.ensures, c.in-Report.is, sym p) (record { status_value = t.0; window_value = refl; values_after = t.1 })
+
+pub returns-in-Refused : goal.returns-in-Refused
+returns-in-Refused c =
+    let t = c.refuse.ensures in
+    rw (sym c.decode_noise.ensures, c.in-Refused.is) (record { status_value = t.0; window_value = refl; values_after = t.1 })
