@@ -16,13 +16,13 @@ use Rattle.acks.proofs.acks.acknowledge.Lts as lts
 
 -- 1 to 3 do not apply, and these bytes are held
 
-holds : (c : lts.After-enum-told) → let a = c.args in held_of a.scanner a.store.now ≡ accepted (take a.scanner.count a.store.now)
+holds : (c : lts.In_default) → let a = c.args in held_of a.scanner a.store.now ≡ accepted (take a.scanner.count a.store.now)
 holds c = let a = c.args in passed a.scanner a.store.now _ _ c.check.ensures c.in_default.is
 
-fits : (c : lts.After-enum-told) → let a = c.args in a.scanner.count ≤ length a.store.now
+fits : (c : lts.In_default) → let a = c.args in a.scanner.count ≤ length a.store.now
 fits c = let a = c.args in (admitted a.scanner a.store.now (take a.scanner.count a.store.now) (holds c)).fits
 
-as_long : (c : lts.After-enum-told) → let a = c.args in a.scanner.count ≡ length (take a.scanner.count a.store.now)
+as_long : (c : lts.In_default) → let a = c.args in a.scanner.count ≡ length (take a.scanner.count a.store.now)
 as_long c = sym (length-take-le _ _ (fits c))
 
 -- 18 does not apply either
@@ -30,7 +30,7 @@ as_long c = sym (length-take-le _ _ (fits c))
 has_room : (c : lts.Else-not-acks_fit) → let a = c.args in length (acks_in (take a.scanner.count a.store.now)) ≤ length a.out.now
 has_room c = leb-true _ _ (sym c.acks_fit.ensures ∙ not-false c.acks_fit.result c.if-not-acks_fit.false)
 
-goes : (c : lts.After-decide-all) → let a = c.args in c.decide_all-moved.result.dropped + c.decide_all-moved.result.handed ≤ a.scanner.count
+goes : (c : lts.After-decide_all-moved) → let a = c.args in c.decide_all-moved.result.dropped + c.decide_all-moved.result.handed ≤ a.scanner.count
 goes c = let a = c.args in goes_held a.scanner a.store.now (take a.scanner.count a.store.now) (holds c) c.decide_all-moved.result c.decide_all-moved.ensures
 
 -- what the takes come to together, by the state's answer
@@ -38,7 +38,7 @@ goes c = let a = c.args in goes_held a.scanner a.store.now (take a.scanner.count
 comes : (c : lts.After-advance) → (o : Counted) → c.advance.result ≡ o
     → let m = c.decide_all-moved.result in
     let a = c.args in
-    drain_call a.scanner a.store.now ≡ counting (counted_told o) false a.scanner a.store.now (let_go (take a.scanner.count a.store.now) (m.dropped + m.handed) a.store.now)
+    drain_call a.scanner a.store.now ≡ counting (counted_told o) false a.scanner a.store.now (let_go (take a.scanner.count a.store.now) (c.decide_all-moved.result.dropped + c.decide_all-moved.result.handed) a.store.now)
 comes c o e =
     let k = c in
     let a = c.args in

@@ -11,22 +11,22 @@ use Rattle.acks.proofs.acks.acks_len.Lts as lts
 sight : (c : lts.After-seek invariant-loop decreases-loop) → c.seek.result ≡ sight_of (drop c.loop-at.past c.args.held.now)
 sight c = rw (part_rest c.loop-at.past c.args.held.now) at c.seek.ensures
 
-within : (c : lts.In-Both-2 invariant-loop decreases-loop) → let l = c.loop-at in let g = c.at-1.given.0 in l.past + g.0 + g.1.0 ≤ length c.args.held.now
+within : (c : lts.In-Both-2 invariant-loop decreases-loop) → let l = c.loop-at in let g = c.at-1.given.0 in c.loop-at.past + c.in-Both.at + c.in-Both.n ≤ length c.args.held.now
 within c = next_within c.args.held.now c.loop-at.past (sight c) c.in-Both.is c.loop-at.invariant.0
 
 -- one span more
 
-grown : (c : lts.After-span-ack-len invariant-loop decreases-loop)
+grown : (c : lts.After-span_ack_len-len invariant-loop decreases-loop)
     → let l = c.loop-at in
     let g = c.at-1.given.0 in
     let held = c.args.held.now in
-    l.len + c.span_ack_len-len.result + length (acks_in (drop (l.past + g.0 + g.1.0) held)) ≡ length (acks_in held)
+    c.loop-at.len + c.span_ack_len-len.result + length (acks_in (drop (c.loop-at.past + c.in-Both.at + c.in-Both.n) held)) ≡ length (acks_in held)
 grown c =
     let l = c.loop-at in
     let g = c.at-1.given.0 in
     let held = c.args.held.now in
-    let b = next_begins held l.past (sight c) c.in-Both.is l.invariant.0 in
-    omega (arith, l.invariant.1, c.span_ack_len-len.ensures, ap length b.splits, length-append (span_ack (take (l.past + g.0 + g.1.0 - (l.past + g.0)) (drop (l.past + g.0) held))) (acks_in (drop (l.past + g.0 + g.1.0) held)))
+    let b = next_begins held c.loop-at.past (sight c) c.in-Both.is c.loop-at.invariant.0 in
+    omega (arith, c.loop-at.invariant.1, c.span_ack_len-len.ensures, ap length b.splits, length-append (span_ack (take (c.loop-at.past + c.in-Both.at + c.in-Both.n - (c.loop-at.past + c.in-Both.at)) (drop (c.loop-at.past + c.in-Both.at) held))) (acks_in (drop (c.loop-at.past + c.in-Both.at + c.in-Both.n) held)))
 
 pub loop-at-init : goal.loop-at-init
 loop-at-init c = (omega arith, omega arith)
@@ -58,7 +58,7 @@ overflow_add-len c = omega (arith, grown c, acks_bound c.args.held.now)
 pub loop-at-smaller : goal.loop-at-smaller
 loop-at-smaller c =
     let l = c.loop-at in
-    omega (arith, within c, next_further c.args.held.now l.past (sight c) c.in-Both.is l.invariant.0)
+    omega (arith, within c, next_further c.args.held.now c.loop-at.past (sight c) c.in-Both.is c.loop-at.invariant.0)
 
 pub loop-at-preserved : goal.loop-at-preserved
 loop-at-preserved c = (within c, grown c)

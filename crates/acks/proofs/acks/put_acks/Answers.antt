@@ -11,14 +11,14 @@ use Rattle.acks.proofs.acks.put_acks.Lts as lts
 sight : (c : lts.After-seek invariant-loop decreases-loop) → c.seek.result ≡ sight_of (drop c.loop-at.past c.args.held.now)
 sight c = rw (part_rest c.loop-at.past c.args.held.now) at c.seek.ensures
 
-within : (c : lts.In-Both-2 invariant-loop decreases-loop) → let l = c.loop-at in let g = c.at-1.given.0 in l.past + g.0 + g.1.0 ≤ length c.args.held.now
+within : (c : lts.In-Both-2 invariant-loop decreases-loop) → let l = c.loop-at in let g = c.at-1.given.0 in c.loop-at.past + c.in-Both.at + c.in-Both.len ≤ length c.args.held.now
 within c = next_within c.args.held.now c.loop-at.past (sight c) c.in-Both.is c.loop-at.invariant.0
 
 begins : (c : lts.In-Both-2 invariant-loop decreases-loop)
     → let l = c.loop-at in
     let g = c.at-1.given.0 in
     let held = c.args.held.now in
-    Begins (acks_in (drop l.past held)) (span_ack (take (l.past + g.0 + g.1.0 - (l.past + g.0)) (drop (l.past + g.0) held))) (acks_in (drop (l.past + g.0 + g.1.0) held))
+    Begins (acks_in (drop c.loop-at.past held)) (span_ack (take (c.loop-at.past + c.in-Both.at + c.in-Both.len - (c.loop-at.past + c.in-Both.at)) (drop (c.loop-at.past + c.in-Both.at) held))) (acks_in (drop (c.loop-at.past + c.in-Both.at + c.in-Both.len) held))
 begins c = next_begins c.args.held.now c.loop-at.past (sight c) c.in-Both.is c.loop-at.invariant.0
 
 pub loop-at-init : goal.loop-at-init
@@ -66,7 +66,7 @@ put_span_ack-next-requires c = (
 pub loop-at-smaller : goal.loop-at-smaller
 loop-at-smaller c =
     let l = c.loop-at in
-    omega (arith, within c, next_further c.args.held.now l.past (sight c) c.in-Both.is l.invariant.0)
+    omega (arith, within c, next_further c.args.held.now c.loop-at.past (sight c) c.in-Both.is c.loop-at.invariant.0)
 
 pub loop-at-preserved : goal.loop-at-preserved
 loop-at-preserved c = (within c, c.put_span_ack-next.auto.1.0 ∙ c.loop-at.invariant.1, step c.loop-at.invariant.2 (begins c) c.put_span_ack-next.ensures)

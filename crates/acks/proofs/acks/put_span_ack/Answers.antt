@@ -32,7 +32,7 @@ wrote c =
     let a = c.args in
     c.ack.ensures.result_value ∙ ap (λ (e : WriteEffect). e.answer) (ack_writes c.in-Ack.seq _ ∙ part_written (ack_frame c.in-Ack.seq) a.out.now a.at (room c))
 
-count : (c : lts.After-known-told2) → c.in-Bytes.n ≡ length (ack_frame c.in-Ack.seq)
+count : (c : lts.In-Bytes) → c.in-Bytes.n ≡ length (ack_frame c.in-Ack.seq)
 count c = let e = sym (ap written_told c.in-Bytes.is) ∙ wrote c in cc
 
 pub slice_bounds-unpack-end-2 : goal.slice_bounds-unpack-end-2

@@ -16,17 +16,17 @@ pub returns-then-digit-gt9 : goal.returns-then-digit-gt9
 returns-then-digit-gt9 c =
     let l = c.loop-i in
     let d = c.decimal-digit.ensures in
-    sym (ap told_number (told_other c.args.text.now l.n l.i c.loop-i-test.true (omega arith))) ∙ l.invariant.1
+    sym (ap told_number (told_other c.args.text.now c.loop-i.n c.loop-i.i c.loop-i-test.true (omega arith))) ∙ c.loop-i.invariant.1
 
 pub loop-i-preserved : goal.loop-i-preserved
 loop-i-preserved c =
     let l = c.loop-i in
     let d = c.decimal-digit.ensures in
     let w = rw d at c.with_digit-n.ensures in
-    (omega arith, told_digit c.args.text.now l.n l.i c.loop-i-test.true (omega arith) w ∙ l.invariant.1)
+    (omega arith, told_digit c.args.text.now c.loop-i.n c.loop-i.i c.loop-i-test.true (omega arith) w ∙ c.loop-i.invariant.1)
 
 pub returns : goal.returns
 returns c =
     let l = c.loop-i in
-    let e : l.n ≡ capped l.n = omega arith in
-    ap some e ∙ sym (ap told_number (told_end c.args.text.now l.n l.i c.loop-i-test.false)) ∙ l.invariant.1
+    let e : c.loop-i.n ≡ capped c.loop-i.n = omega arith in
+    ap some e ∙ sym (ap told_number (told_end c.args.text.now c.loop-i.n c.loop-i.i c.loop-i-test.false)) ∙ c.loop-i.invariant.1

@@ -15,28 +15,28 @@ use Rattle.draining.proofs.draining.decide_all.Lts as lts
 cut : (c : lts.After-decide-cut invariant-loop decreases-loop)
     → let a = c.args in
     let l = c.loop-limit in
-    c.decide-cut.result ≡ cut_of a.limit (drop (l.dropped + l.handed) a.held.now)
-cut c = let l = c.loop-limit in rw (part_rest (l.dropped + l.handed) c.args.held.now) at c.decide-cut.ensures
+    c.decide-cut.result ≡ cut_of a.limit (drop (c.loop-limit.dropped + c.loop-limit.handed) a.held.now)
+cut c = let l = c.loop-limit in rw (part_rest (c.loop-limit.dropped + c.loop-limit.handed) c.args.held.now) at c.decide-cut.ensures
 
 within : (c : lts.After-decide-cut invariant-loop decreases-loop)
     → let a = c.args in
     let l = c.loop-limit in
-    l.dropped + c.decide-cut.result.dropped + (l.handed + c.decide-cut.result.handed) ≤ length a.held.now
+    c.loop-limit.dropped + c.decide-cut.result.dropped + (c.loop-limit.handed + c.decide-cut.result.handed) ≤ length a.held.now
 within c =
     let a = c.args in
     let l = c.loop-limit in
-    rw (cut c) (cut_within a.limit a.held.now l.dropped l.handed l.invariant.0)
+    rw (cut c) (cut_within a.limit a.held.now c.loop-limit.dropped c.loop-limit.handed c.loop-limit.invariant.0)
 
 on : (c : lts.After-decide-cut invariant-loop decreases-loop) → c.decide-cut.result.span ≡ true
     → let a = c.args in
     let l = c.loop-limit in
-    let d = l.dropped + c.decide-cut.result.dropped in
-    let h = l.handed + c.decide-cut.result.handed in
-    (l.dropped + l.handed < d + h) × Going a.limit a.held.now d h
+    let d = c.loop-limit.dropped + c.decide-cut.result.dropped in
+    let h = c.loop-limit.handed + c.decide-cut.result.handed in
+    (c.loop-limit.dropped + c.loop-limit.handed < d + h) × Going a.limit a.held.now d h
 on c q =
     let a = c.args in
     let l = c.loop-limit in
-    rw (cut c) (going_on a.limit a.held.now l.dropped l.handed l.invariant.0 (rw (cut c) at q) l.invariant.1)
+    rw (cut c) (going_on a.limit a.held.now c.loop-limit.dropped c.loop-limit.handed c.loop-limit.invariant.0 (rw (cut c) at q) c.loop-limit.invariant.1)
 
 pub loop-limit-init : goal.loop-limit-init
 loop-limit-init c = (omega arith, going_first c.args.limit c.args.held.now)
@@ -52,7 +52,7 @@ returns-then-not-cut c =
     let k = c in
     let a = k.args in
     let l = k.loop-limit in
-    rw (cut k) (going_ends a.limit a.held.now l.dropped l.handed l.invariant.0 (rw (cut k) at (not-true k.decide-cut.result.span c.if-not-cut.true)) l.invariant.1)
+    rw (cut k) (going_ends a.limit a.held.now k.loop-limit.dropped k.loop-limit.handed k.loop-limit.invariant.0 (rw (cut k) at (not-true k.decide-cut.result.span c.if-not-cut.true)) k.loop-limit.invariant.1)
 
 pub loop-limit-smaller : goal.loop-limit-smaller
 loop-limit-smaller c = let k = c in omega (arith, within k, (on k (not-false _ c.if-not-cut.false)).0)

@@ -18,13 +18,13 @@ use Rattle.draining.proofs.draining.drain.Lts as lts
 
 -- 1 to 3 do not apply, and these bytes are held
 
-holds : (c : lts.After-decide-all) → let d = c.args in held_of d.scanner d.store.now ≡ accepted (take d.scanner.count d.store.now)
+holds : (c : lts.After-decide_all-moved) → let d = c.args in held_of d.scanner d.store.now ≡ accepted (take d.scanner.count d.store.now)
 holds c =
     let k = c in
     let d = k.args in
     passed d.scanner d.store.now _ _ k.check.ensures c.in-Fine.is
 
-goes : (c : lts.After-decide-all) → let d = c.args in c.decide_all-moved.result.dropped + c.decide_all-moved.result.handed ≤ d.scanner.count
+goes : (c : lts.After-decide_all-moved) → let d = c.args in c.decide_all-moved.result.dropped + c.decide_all-moved.result.handed ≤ d.scanner.count
 goes c = let d = c.args in goes_held d.scanner d.store.now (take d.scanner.count d.store.now) (holds c) c.decide_all-moved.result c.decide_all-moved.ensures
 
 -- what the drain comes to, by the state's answer
@@ -33,7 +33,7 @@ comes : (c : lts.After-advance) → (o : Counted) → c.advance.result ≡ o
     → let k = c in
     let d = k.args in
     let m = k.decide_all-moved.result in
-    drain_call d.scanner d.store.now ≡ counting (counted_told o) false d.scanner d.store.now (let_go (take d.scanner.count d.store.now) (m.dropped + m.handed) d.store.now)
+    drain_call d.scanner d.store.now ≡ counting (counted_told o) false d.scanner d.store.now (let_go (take d.scanner.count d.store.now) (k.decide_all-moved.result.dropped + k.decide_all-moved.result.handed) d.store.now)
 comes c o e =
     let k = c in
     let d = k.args in

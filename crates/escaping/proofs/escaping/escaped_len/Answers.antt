@@ -9,7 +9,7 @@ use Rattle.escaping.proofs.escaping.escaped_len.Lts as lts
 
 -- what the block adds
 
-added : (c : lts.After-special-in invariant-loop decreases-loop) →
+added : (c : lts.After-special_in invariant-loop decreases-loop) →
     let s = c.args.src.now in
     let i = c.loop-i.i in
     let e = c.block_end-end.result in

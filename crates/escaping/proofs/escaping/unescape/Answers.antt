@@ -19,7 +19,7 @@ pub loop-i-preserved-then-b-ne-SENTRY : goal.loop-i-preserved-then-b-ne-SENTRY
 loop-i-preserved-then-b-ne-SENTRY c =
     let l = c.loop-i in
     let a = c.args in
-    (omega arith, omega arith, omega arith, fill_step l.invariant.3 (plain_turn a.src.now l.i c.loop-i-test.true c.if-b-ne-SENTRY.true))
+    (omega arith, omega arith, omega arith, fill_step c.loop-i.invariant.3 (plain_turn a.src.now c.loop-i.i c.loop-i-test.true c.if-b-ne-SENTRY.true))
 
 pub shape_of-out-then-src-i : goal.shape_of-out-then-src-i
 shape_of-out-then-src-i c = ap length c.wipe.ensures ∙ simp length-replicate c.loop-i.invariant.3.same
@@ -29,7 +29,7 @@ returns-then-src-i c =
     let t = c in
     let l = t.loop-i in
     let a = c.args in
-    rw (unescape_ended a.src.now a.out.now l.invariant.2 (fill_refused l.invariant.3 (trailing_turn a.src.now l.i t.loop-i-test.true c.if-b-ne-SENTRY.false c.if-src-i.true))) (record { result_value = refl; out_after = c.wipe.ensures })
+    rw (unescape_ended a.src.now a.out.now t.loop-i.invariant.2 (fill_refused t.loop-i.invariant.3 (trailing_turn a.src.now t.loop-i.i t.loop-i-test.true c.if-b-ne-SENTRY.false c.if-src-i.true))) (record { result_value = refl; out_after = c.wipe.ensures })
 
 pub bounds-out-at-in-44-to-46 : goal.bounds-out-at-in-44-to-46
 bounds-out-at-in-44-to-46 c = omega (arith, c.loop-i.invariant.3.same)
@@ -39,7 +39,7 @@ loop-i-preserved c =
     let t = c in
     let l = t.loop-i in
     let a = c.args in
-    (omega arith, omega arith, omega arith, fill_step l.invariant.3 (escape_turn a.src.now l.i t.loop-i-test.true c.if-b-ne-SENTRY.false c.if-src-i.false c.if-e-lt44.false c.if-e-lt47.true))
+    (omega arith, omega arith, omega arith, fill_step t.loop-i.invariant.3 (escape_turn a.src.now t.loop-i.i t.loop-i-test.true c.if-b-ne-SENTRY.false c.if-src-i.false c.if-e-lt44.false c.if-e-lt47.true))
 
 pub shape_of-out-in_default : goal.shape_of-out-in_default
 shape_of-out-in_default c = ap length c.wipe-in_default.ensures ∙ simp length-replicate c.loop-i.invariant.3.same
@@ -49,7 +49,7 @@ returns-in_default c =
     let t = c in
     let l = t.loop-i in
     let a = c.args in
-    rw (unescape_ended a.src.now a.out.now l.invariant.2 (fill_refused l.invariant.3 (bad_turn a.src.now l.i t.loop-i-test.true c.if-b-ne-SENTRY.false c.if-src-i.false (⊎_elim (λ w. inl w.taken) (λ w. inr w.1.left) c.if-e-lt44.branch)))) (record { result_value = refl; out_after = c.wipe-in_default.ensures })
+    rw (unescape_ended a.src.now a.out.now t.loop-i.invariant.2 (fill_refused t.loop-i.invariant.3 (bad_turn a.src.now t.loop-i.i t.loop-i-test.true c.if-b-ne-SENTRY.false c.if-src-i.false (⊎_elim (λ w. inl w.taken) (λ w. inr w.1.left) c.if-e-lt44.branch)))) (record { result_value = refl; out_after = c.wipe-in_default.ensures })
 
 pub shape_of-out : goal.shape_of-out
 shape_of-out c = c.loop-i.invariant.3.same
@@ -58,4 +58,4 @@ pub returns : goal.returns
 returns c =
     let l = c.loop-i in
     let a = c.args in
-    rw (unescape_ended a.src.now a.out.now l.invariant.2 (fill_accepted l.invariant.3 (unescape_end a.src.now l.i c.loop-i-test.false) (omega arith))) (record { result_value = refl; out_after = refl })
+    rw (unescape_ended a.src.now a.out.now c.loop-i.invariant.2 (fill_accepted c.loop-i.invariant.3 (unescape_end a.src.now c.loop-i.i c.loop-i-test.false) (omega arith))) (record { result_value = refl; out_after = refl })

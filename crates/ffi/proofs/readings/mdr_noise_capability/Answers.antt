@@ -11,9 +11,9 @@ pub returns-in-Kind : goal.returns-in-Kind
 returns-in-Kind c =
     let d = c.decode_noise_capability-c in
     let e = c.in-Kind.is in
-    taken capability_numbers c.args.values.now (read d.result d.ensures.0 e) (c.tell.ensures ∙ ap (λ (xs : List ℕ). told xs c.args.values.now) (c.ranges-2.ensures ∙ report_told d.result d.ensures.0 e d.ensures.1))
+    taken capability_numbers c.args.values.now (read c.decode_noise_capability-c.result c.decode_noise_capability-c.ensures.result_value e) (c.tell.ensures ∙ ap (λ (xs : List ℕ). told xs c.args.values.now) (c.ranges-2.ensures ∙ report_told c.decode_noise_capability-c.result c.decode_noise_capability-c.ensures.result_value e c.decode_noise_capability-c.ensures.report_value))
 
 pub returns-in-Refused : goal.returns-in-Refused
 returns-in-Refused c =
     let d = c.decode_noise_capability-c in
-    turned capability_numbers c.args.values.now c.in-Refused.r (not_read d.result d.ensures.0 c.in-Refused.is) c.refuse.ensures
+    turned capability_numbers c.args.values.now c.in-Refused.r (not_read c.decode_noise_capability-c.result c.decode_noise_capability-c.ensures.result_value c.in-Refused.is) c.refuse.ensures

@@ -13,7 +13,7 @@ wrote c =
     let a = c.args in
     c.escape.ensures.result_value ∙ ap (λ (e : WriteEffect). e.answer) (part_written (escape_of a.src.now) a.out.now a.at c.requires)
 
-count : (c : lts.After-known-told) → c.in-Bytes.n ≡ length (escape_of c.args.src.now)
+count : (c : lts.In-Bytes) → c.in-Bytes.n ≡ length (escape_of c.args.src.now)
 count c = let e = sym (ap written_told c.in-Bytes.is) ∙ wrote c in cc
 
 pub overflow_add-result : goal.overflow_add-result

@@ -16,16 +16,16 @@ pub check_body-requires : goal.check_body-requires
 check_body-requires c =
     let a = c.args in
     let u = c.unescape in
-    (unpack_body a.frame.now a.work.now c.if-n-lt9.false c.if-frame-ne-START.false c.if-frame-n-ne-END.false (sym (ap written_told c.in-Bytes.is) ∙ u.ensures.0) u.ensures.1).within
+    (unpack_body a.frame.now a.work.now c.if-n-lt9.false c.if-frame-ne-START.false c.if-frame-n-ne-END.false (sym (ap written_told c.in-Bytes.is) ∙ c.unescape.ensures.result_value) c.unescape.ensures.out_after).within
 
 pub returns-in-Refused : goal.returns-in-Refused
 returns-in-Refused c =
     let a = c.args in
     let u = c.unescape in
-    rw (unpack_not a.frame.now a.work.now c.if-n-lt9.false c.if-frame-ne-START.false c.if-frame-n-ne-END.false (sym (ap written_told c.in-Refused.is) ∙ u.ensures.0) u.ensures.1) (record { result_value = refl; work_after = refl })
+    rw (unpack_not a.frame.now a.work.now c.if-n-lt9.false c.if-frame-ne-START.false c.if-frame-n-ne-END.false (sym (ap written_told c.in-Refused.is) ∙ c.unescape.ensures.result_value) c.unescape.ensures.out_after) (record { result_value = refl; work_after = refl })
 
 pub returns-in-Bytes : goal.returns-in-Bytes
 returns-in-Bytes c =
     let a = c.args in
     let u = c.unescape in
-    rw (unpack_body a.frame.now a.work.now c.if-n-lt9.false c.if-frame-ne-START.false c.if-frame-n-ne-END.false (sym (ap written_told c.in-Bytes.is) ∙ u.ensures.0) u.ensures.1).call c.check_body.ensures
+    rw (unpack_body a.frame.now a.work.now c.if-n-lt9.false c.if-frame-ne-START.false c.if-frame-n-ne-END.false (sym (ap written_told c.in-Bytes.is) ∙ c.unescape.ensures.result_value) c.unescape.ensures.out_after).call c.check_body.ensures

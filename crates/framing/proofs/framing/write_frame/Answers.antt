@@ -18,12 +18,12 @@ room c = let a = c.args in omega (arith, fits c, parts_length a.head.now a.paylo
 
 -- once the checksum stands there
 
-filled : (c : lts.After-put-each2) → let a = c.args in (length c.put_each-c.new.1.0 ≡ length a.out.now) × (c.put_each-c.result < length a.out.now)
+filled : (c : lts.After-put_each-c) → let a = c.args in (length c.put_each-c.new.1.0 ≡ length a.out.now) × (c.put_each-c.result < length a.out.now)
 filled c =
     let u = c.put_each-a in
     let v = c.put-b in
-    let same : length c.put_each-c.new.1.0 ≡ length c.args.out.now = omega (arith, c.put_each-c.auto.1.0, v.auto.1.0, u.auto.1.0, length-set c.args.out.now 0 62) in
-    (same, omega (arith, room c, u.ensures.place, v.ensures.place, c.put_each-c.ensures.place))
+    let same : length c.put_each-c.new.1.0 ≡ length c.args.out.now = omega (arith, c.put_each-c.auto.1.0, c.put-b.auto.1.0, c.put_each-a.auto.1.0, length-set c.args.out.now 0 62) in
+    (same, omega (arith, room c, c.put_each-a.ensures.place, c.put-b.ensures.place, c.put_each-c.ensures.place))
 
 pub returns-then-not-frame_fits : goal.returns-then-not-frame_fits
 returns-then-not-frame_fits c =
@@ -38,13 +38,13 @@ pub put_each-a-requires : goal.put_each-a-requires
 put_each-a-requires c = simp length-set (omega (arith, room c))
 
 pub put-b-requires : goal.put-b-requires
-put-b-requires c = let u = c.put_each-a in omega (arith, room c, u.auto.1.0, length-set c.args.out.now 0 62, u.ensures.place)
+put-b-requires c = let u = c.put_each-a in omega (arith, room c, c.put_each-a.auto.1.0, length-set c.args.out.now 0 62, c.put_each-a.ensures.place)
 
 pub put_each-c-requires : goal.put_each-c-requires
 put_each-c-requires c =
     let u = c.put_each-a in
     let v = c.put-b in
-    omega (arith, room c, v.auto.1.0, u.auto.1.0, length-set c.args.out.now 0 62, u.ensures.place, v.ensures.place)
+    omega (arith, room c, c.put-b.auto.1.0, c.put_each-a.auto.1.0, length-set c.args.out.now 0 62, c.put_each-a.ensures.place, c.put-b.ensures.place)
 
 pub bounds-out-c : goal.bounds-out-c
 bounds-out-c c = omega (arith, filled c)

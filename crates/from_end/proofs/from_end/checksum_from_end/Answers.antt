@@ -7,7 +7,7 @@ pub loop-i-init : goal.loop-i-init
 loop-i-init c = (omega arith, rw (take-length c.args.bytes.now))
 
 pub loop-i-preserved : goal.loop-i-preserved
-loop-i-preserved c = (omega arith, (let l = c.loop-i in back_block l.total c.back-total.result c.args.bytes.now l.i (l.i - 16) (l.i - (l.i - 16)) (omega arith) c.back-total.ensures ∙ l.invariant.1))
+loop-i-preserved c = (omega arith, (let l = c.loop-i in back_block c.loop-i.total c.back-total.result c.args.bytes.now c.loop-i.i (c.loop-i.i - 16) (c.loop-i.i - (c.loop-i.i - 16)) (omega arith) c.back-total.ensures ∙ c.loop-i.invariant.1))
 
 pub slice_bounds-back-end-2 : goal.slice_bounds-back-end-2
 slice_bounds-back-end-2 c = ⊎_elim (λ w. omega arith) (λ w. omega arith) c.if-i-ge8.branch
@@ -17,5 +17,5 @@ returns c =
     let j = c.if-i-ge8 in
     let l = c.loop-i in
     let bytes = c.args.bytes.now in
-    sym (back_none c.back.result bytes 0 (omega arith)) ∙ back_block j.total c.back.result bytes j.i 0 (j.i - 0) (omega arith) c.back.ensures
-    ∙ ⊎_elim (λ w. rw (w.3, w.4) (back_block l.total w.2.result bytes l.i (l.i - 8) (l.i - (l.i - 8)) (omega arith) w.2.ensures ∙ l.invariant.1)) (λ w. rw (w.1, w.2) l.invariant.1) j.branch
+    sym (back_none c.back.result bytes 0 (omega arith)) ∙ back_block c.if-i-ge8.total c.back.result bytes c.if-i-ge8.i 0 (c.if-i-ge8.i - 0) (omega arith) c.back.ensures
+    ∙ ⊎_elim (λ w. rw (w.3, w.4) (back_block c.loop-i.total w.2.result bytes c.loop-i.i (c.loop-i.i - 8) (c.loop-i.i - (c.loop-i.i - 8)) (omega arith) w.2.ensures ∙ c.loop-i.invariant.1)) (λ w. rw (w.1, w.2) c.loop-i.invariant.1) c.if-i-ge8.branch

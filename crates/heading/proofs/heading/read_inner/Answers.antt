@@ -11,16 +11,16 @@ pub returns-in-Refused : goal.returns-in-Refused
 returns-in-Refused c =
     let src = c.args.src.now in
     let l = c.loop-i in
-    sym (turned_away_lem src l.i l.pass c.loop-i-test.true (sym c.step.ensures ∙ ap passed_told c.in-Refused.is)) ∙ l.invariant.1
+    sym (turned_away_lem src c.loop-i.i c.loop-i.pass c.loop-i-test.true (sym c.step.ensures ∙ ap passed_told c.in-Refused.is)) ∙ c.loop-i.invariant.1
 
 pub loop-i-preserved : goal.loop-i-preserved
 loop-i-preserved c =
     let src = c.args.src.now in
     let l = c.loop-i in
-    (omega arith, sym (turn src l.i l.pass c.loop-i-test.true (sym c.step.ensures ∙ ap passed_told c.in-More.is)) ∙ l.invariant.1)
+    (omega arith, sym (turn src c.loop-i.i c.loop-i.pass c.loop-i-test.true (sym c.step.ensures ∙ ap passed_told c.in-More.is)) ∙ c.loop-i.invariant.1)
 
 pub returns : goal.returns
 returns c =
     let src = c.args.src.now in
     let l = c.loop-i in
-    c.end.ensures ∙ sym (turn_end src l.i l.pass c.loop-i-test.false) ∙ l.invariant.1
+    c.end.ensures ∙ sym (turn_end src c.loop-i.i c.loop-i.pass c.loop-i-test.false) ∙ c.loop-i.invariant.1

@@ -12,8 +12,8 @@ returns-then-n-gt5 c =
       ne_eqb n 3 (λ e. omega arith),
       ne_eqb n 4 (λ e. omega arith),
       ne_eqb n 5 (λ e. omega arith),
-      c.wrapping_add_usize.ensures,
-      c.wrapping_add_u8.ensures,
+      c.wrapping_add_usize.ensures.value,
+      c.wrapping_add_u8.ensures.value,
     )
 
 pub returns : goal.returns

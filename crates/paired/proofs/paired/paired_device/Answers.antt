@@ -10,15 +10,15 @@ use Rattle.paired.specs.Paired.{device_end, start_of, paired_told, paired_of, lo
 use Rattle.paired.proofs.paired.paired_device.Goals as goal
 use Rattle.paired.proofs.paired.paired_device.Lts as lts
 
-told : (c : lts.After-known-told2) → paired_of c.args.payload.now ≡ accepted c.in-Count.count
+told : (c : lts.In-Count) → paired_of c.args.payload.now ≡ accepted c.in-Count.count
 told c = sym c.decode_paired_devices.ensures ∙ ap paired_told c.in-Count.is
 
 -- the device lies in the payload, so the walk to it, cut at the payload's length, reaches it
 
-inside : (c : lts.After-known-told2) → let a = c.args in a.index < c.in-Count.count → device_end a.payload.now (start_of a.payload.now a.index) < length a.payload.now
+inside : (c : lts.In-Count) → let a = c.args in a.index < c.in-Count.count → device_end a.payload.now (start_of a.payload.now a.index) < length a.payload.now
 inside c h = let a = c.args in omega (arith, item_ends _ 2 (headed 21) 1 a.payload.now _ (told c) a.index h)
 
-reached : (c : lts.After-items-end) → let a = c.args in c.items_end-at.result ≡ start_of a.payload.now a.index
+reached : (c : lts.After-items_end-at) → let a = c.args in c.items_end-at.result ≡ start_of a.payload.now a.index
 reached c = c.items_end-at.ensures ∙ omega (arith, inside c c.if-index-count.false)
 
 pub returns-then-index-count : goal.returns-then-index-count

@@ -16,7 +16,7 @@ pub returns-then-len-at : goal.returns-then-len-at
 returns-then-len-at c =
     let l = c.loop-left in
     let a = c.args in
-    omega (arith, walk_past (headed a.head) a.payload.now l.left l.at c.loop-left-test.true, l.invariant.2)
+    omega (arith, walk_past (headed a.head) a.payload.now c.loop-left.left c.loop-left.at c.loop-left-test.true, c.loop-left.invariant.2)
 
 pub overflow_cast-more : goal.overflow_cast-more
 overflow_cast-more c = omega (arith, c.shared_slice_known-1.given (c.loop-left.at + c.args.head))
@@ -25,18 +25,18 @@ pub returns-then-len-at-2 : goal.returns-then-len-at-2
 returns-then-len-at-2 c =
     let l = c.loop-left in
     let a = c.args in
-    omega (arith, walk_past (headed a.head) a.payload.now l.left l.at c.loop-left-test.true, l.invariant.2)
+    omega (arith, walk_past (headed a.head) a.payload.now c.loop-left.left c.loop-left.at c.loop-left-test.true, c.loop-left.invariant.2)
 
 pub loop-left-preserved : goal.loop-left-preserved
 loop-left-preserved c =
     let l = c.loop-left in
     let a = c.args in
     let p = a.payload.now in
-    let e : l.at + a.head + 1 + get_or p (l.at + a.head) 0 ≡ l.at + headed a.head p l.at = omega arith in
-    (refl, omega arith, ap (walk (headed a.head) p (l.left - 1)) e ∙ sym (walk_step (headed a.head) p l.left l.at c.loop-left-test.true) ∙ l.invariant.2)
+    let e : c.loop-left.at + a.head + 1 + get_or p (c.loop-left.at + a.head) 0 ≡ c.loop-left.at + headed a.head p c.loop-left.at = omega arith in
+    (refl, omega arith, ap (walk (headed a.head) p (c.loop-left.left - 1)) e ∙ sym (walk_step (headed a.head) p c.loop-left.left c.loop-left.at c.loop-left-test.true) ∙ c.loop-left.invariant.2)
 
 pub returns : goal.returns
 returns c =
     let l = c.loop-left in
     let a = c.args in
-    omega (arith, walk_none (headed a.head) a.payload.now l.left l.at c.loop-left-test.false, l.invariant.1, l.invariant.2)
+    omega (arith, walk_none (headed a.head) a.payload.now c.loop-left.left c.loop-left.at c.loop-left-test.false, c.loop-left.invariant.1, c.loop-left.invariant.2)

@@ -24,7 +24,7 @@ returns-in-Refused-go c =
     let e = passed d.scanner d.store.now _ _ k.check.ensures c.in-Fine.is in
     let n = skip_counts (take d.scanner.count d.store.now) d.dropped d.handed d.scanner.count (held_length d.scanner d.store.now _ e) in
     let g = rw (c.at_most-behind.ensures, c.at_most-first.ensures, n.1, n.0) at c.go.ensures in
-    rw (e, ← g.0, c.in-Refused-go.is) (record { answer_value = refl; scanner_value = refl; store_after = rw (← g.0, c.in-Refused-go.is) at g.1 })
+    rw (e, ← g.result_value, c.in-Refused-go.is) (record { answer_value = refl; scanner_value = refl; store_after = rw (← g.result_value, c.in-Refused-go.is) at g.store_after })
 
 pub returns-in-Next : goal.returns-in-Next
 unfolding skip_call
@@ -34,4 +34,4 @@ returns-in-Next c =
     let e = passed d.scanner d.store.now _ _ k.check.ensures c.in-Fine.is in
     let n = skip_counts (take d.scanner.count d.store.now) d.dropped d.handed d.scanner.count (held_length d.scanner d.store.now _ e) in
     let g = rw (c.at_most-behind.ensures, c.at_most-first.ensures, n.1, n.0) at c.go.ensures in
-    rw (e, ← g.0, c.in-Next.is) (record { answer_value = refl; scanner_value = refl; store_after = rw (← g.0, c.in-Next.is) at g.1 })
+    rw (e, ← g.result_value, c.in-Next.is) (record { answer_value = refl; scanner_value = refl; store_after = rw (← g.result_value, c.in-Next.is) at g.store_after })

@@ -36,8 +36,8 @@ returns-in-Refused-go c =
     let k = c in
     let d = k.args in
     let g = rw c.decide-c.ensures at c.go.ensures in
-    rw (passed d.scanner d.store.now _ _ k.check.ensures c.in-Fine.is, ← g.0, c.in-Refused-go.is)
-    (record { answer_value = refl; scanner_value = refl; store_after = rw (← g.0, c.in-Refused-go.is) at g.1 })
+    rw (passed d.scanner d.store.now _ _ k.check.ensures c.in-Fine.is, ← g.result_value, c.in-Refused-go.is)
+    (record { answer_value = refl; scanner_value = refl; store_after = rw (← g.result_value, c.in-Refused-go.is) at g.store_after })
 
 pub returns-in-Next : goal.returns-in-Next
 unfolding take_call
@@ -46,5 +46,5 @@ returns-in-Next c =
     let d = k.args in
     let x = c.decide-c.ensures in
     let g = rw x at c.go.ensures in
-    rw (passed d.scanner d.store.now _ _ k.check.ensures c.in-Fine.is, ← g.0, c.in-Next.is)
-    (record { answer_value = rw x at c.answered.ensures; scanner_value = refl; store_after = rw (← g.0, c.in-Next.is) at g.1 })
+    rw (passed d.scanner d.store.now _ _ k.check.ensures c.in-Fine.is, ← g.result_value, c.in-Next.is)
+    (record { answer_value = rw x at c.answered.ensures; scanner_value = refl; store_after = rw (← g.result_value, c.in-Next.is) at g.store_after })

@@ -23,10 +23,10 @@ formed : (c : lts.Else-payload-gt-GS_ENUM_NAME) → let p = c.args.payload.now i
 unfolding info_contents
 formed c = rw (fits c, eq-eqb _ _ c.if-payload-ne-GS_BOOLEAN_TYPE.false, le-leb _ _ c.if-payload-gt-GS_ENUM_NAME.false)
 
-name-told : (c : lts.After-count-characters) → let p = c.args.payload.now in characters_of (bytes_at p name_at) ≡ c.count_characters.result
+name-told : (c : lts.After-count_characters) → let p = c.args.payload.now in characters_of (bytes_at p name_at) ≡ c.count_characters.result
 name-told c = sym (rw (add-sub_cancel_left) at c.count_characters.ensures)
 
-summary-told : (c : lts.After-count-characters2) → let p = c.args.payload.now in characters_of (bytes_at p (summary_at p)) ≡ c.count_characters-2.result
+summary-told : (c : lts.After-count_characters-2) → let p = c.args.payload.now in characters_of (bytes_at p (summary_at p)) ≡ c.count_characters-2.result
 summary-told c =
     let p = c.args.payload.now in
     let e : length p - (5 + get_or p 4 0 + 1) ≡ get_or p (5 + get_or p 4 0) 0 = c.if-len-summary.false in

@@ -19,5 +19,5 @@ unfolding support_call
 returns-else-room-count c =
     let told = c.check_support_functions.ensures in
     let n = c.count-1.given in
-    let long = was_list c.args.payload.now n.0.0 (sym (rw n.1 at told)) in
-    (omega (arith, c.if-room-count.false), omega (arith, long), λ rs l. rw (← told, n.1, le-ltb (length rs) n.0.0 (omega (arith, c.if-room-count.false))))
+    let long = was_list c.args.payload.now c.in-Count.count (sym (rw c.in-Count.is at told)) in
+    (omega (arith, c.if-room-count.false), omega (arith, long), λ rs l. rw (← told, c.in-Count.is, le-ltb (length rs) c.in-Count.count (omega (arith, c.if-room-count.false))))

@@ -14,7 +14,7 @@ returns-then-values-i c = sym (full c.args.numbers.now c.loop-i.values c.loop-i.
 pub loop-i-preserved : goal.loop-i-preserved
 loop-i-preserved c =
     let l = c.loop-i in
-    (omega arith, simp length-set l.invariant.1, turn c.args.numbers.now l.values l.i (omega arith) (omega arith) ∙ l.invariant.2)
+    (omega arith, simp length-set c.loop-i.invariant.1, turn c.args.numbers.now c.loop-i.values c.loop-i.i (omega arith) (omega arith) ∙ c.loop-i.invariant.2)
 
 pub returns : goal.returns
 returns c = sym (whole c.args.numbers.now c.loop-i.values c.loop-i.i (omega arith)) ∙ c.loop-i.invariant.2

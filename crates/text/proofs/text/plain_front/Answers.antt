@@ -12,7 +12,7 @@ pub returns-then-not-plain : goal.returns-then-not-plain
 returns-then-not-plain c = c.loop-i.invariant
 
 pub loop-i-preserved : goal.loop-i-preserved
-loop-i-preserved c = let l = c.loop-i in (omega arith, part_on _ _ l.i (l.i + 8) l.invariant.1 (omega arith) (omega arith) (c.plain.ensures (not-false _ c.if-not-plain.false)))
+loop-i-preserved c = let l = c.loop-i in (omega arith, part_on _ _ c.loop-i.i (c.loop-i.i + 8) c.loop-i.invariant.1 (omega arith) (omega arith) (c.plain.ensures (not-false _ c.if-not-plain.false)))
 
 pub loop-i-2-init : goal.loop-i-2-init
 loop-i-2-init c = c.loop-i.invariant

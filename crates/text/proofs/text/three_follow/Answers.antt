@@ -19,7 +19,7 @@ returns-then-follows c =
     let first = sym c.follows.ensures ∙ c.if-follows.true in
     let r = c.two_follow in
     let three : a.at + 1 + 2 ≡ a.at + 3 = omega arith in
-    record { bytes_value = follow_on a.bytes.now a.at a.low a.high 2 first ∙ r.ensures.0 ∙ ap (λ (k : ℕ). pick r.result (characters_of (drop k a.bytes.now)) NoText) three; at_in_bounds = λ e. omega (arith, r.ensures.1 e) }
+    record { bytes_value = follow_on a.bytes.now a.at a.low a.high 2 first ∙ c.two_follow.ensures.bytes_value ∙ ap (λ (k : ℕ). pick c.two_follow.result (characters_of (drop k a.bytes.now)) NoText) three; at_in_bounds = λ e. omega (arith, c.two_follow.ensures.at_in_bounds e) }
 
 pub returns-else-follows : goal.returns-else-follows
 returns-else-follows c =

@@ -5,9 +5,9 @@ pub returns-in-Report : goal.returns-in-Report
 returns-in-Report c =
     let t = c.window_told.ensures in
     let p = c.push-next.ensures in
-    rw (sym c.decode_noise.ensures, c.in-Report.is, sym p) (record { status_value = t.0; window_value = refl; values_after = t.1 })
+    rw (sym c.decode_noise.ensures, c.in-Report.is, sym p) (record { status_value = c.window_told.ensures.value; window_value = refl; values_after = c.window_told.ensures.values_after })
 
 pub returns-in-Refused : goal.returns-in-Refused
 returns-in-Refused c =
     let t = c.refuse.ensures in
-    rw (sym c.decode_noise.ensures, c.in-Refused.is) (record { status_value = t.0; window_value = refl; values_after = t.1 })
+    rw (sym c.decode_noise.ensures, c.in-Refused.is) (record { status_value = c.refuse.ensures.value; window_value = refl; values_after = c.refuse.ensures.values_after })
