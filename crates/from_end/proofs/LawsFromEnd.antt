@@ -1,5 +1,5 @@
 -- 02, C-14: the checksum from the far end, cut anywhere, is 01's. Assumes nothing.
-use Rattle.std.proofs.Common.{◌≡◌, ℕ, zero, ◌+◌, ◌%◌, ◌<◌, ◌≤◌, List, [], ◌∷◌, ◌++◌, length, get_or, take, drop, sym, refl, ap, ◌∙◌, arith, take-append-drop, drop-cons, take-add}
+use Rattle.std.proofs.Common.{suc, ◌≡◌, ℕ, zero, ◌+◌, ◌%◌, ◌<◌, ◌≤◌, List, [], ◌∷◌, ◌++◌, length, get_or, take, drop, sym, refl, ap, ◌∙◌, arith, take-append-drop, drop-cons, take-add}
 use mathlib.Core.List.{foldr, flatten}
 use Rattle.base.specs.Sum.{total, checksum_of}
 use Rattle.from_end.specs.FromEnd.{back_onto}
@@ -48,3 +48,4 @@ back_step sum next bytes i k whole within e = back_block sum next bytes i k 1 wh
 pub back_none : (sum : ℕ) (bytes : List ℕ) (i : ℕ) → i ≤ 0 → back_onto sum (take i bytes) ≡ sum
 unfolding back_onto
 back_none sum bytes zero h = refl
+back_none sum bytes (suc _) h = elim h [ ]

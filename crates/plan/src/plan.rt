@@ -56,6 +56,7 @@ fn entry_at(plan: &[u8], at: usize) -> u8
     if at < plan.len() { plan[at] } else { 0 }
 }
 
+#[tactic(auto, unfolding(crate::specs::Plan::entry_of))]
 pub fn entry(plan: &[u8], kind: u8, command: u8) -> u8
     ensures { result ≡ entry_of plan.now kind command }
 {

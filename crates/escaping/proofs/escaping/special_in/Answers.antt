@@ -11,19 +11,19 @@ pub loop-i-preserved-then-b-lt60 : goal.loop-i-preserved-then-b-lt60
 loop-i-preserved-then-b-lt60 c =
     let s = c.args.block.now in
     let i = c.loop-i.i in
-    omega (arith, each_length escaped_byte s i c.loop-i-test.true, ap length (plain (get_or s i 0) (inl c.if-b-lt60.true)))
+    omega (arith, each_length escaped_byte s i c.loop-i-test.true, ap length (plain (get_or s i 0) (inl (omega arith))))
 
 pub loop-i-preserved-then-b-lt63 : goal.loop-i-preserved-then-b-lt63
 loop-i-preserved-then-b-lt63 c =
     let s = c.args.block.now in
     let i = c.loop-i.i in
-    omega (arith, each_length escaped_byte s i c.loop-i-test.true, ap length (special (get_or s i 0) c.if-b-lt60.false c.if-b-lt63.true))
+    omega (arith, each_length escaped_byte s i c.loop-i-test.true, ap length (special (get_or s i 0) (omega arith) (omega arith)))
 
 pub loop-i-preserved : goal.loop-i-preserved
 loop-i-preserved c =
     let s = c.args.block.now in
     let i = c.loop-i.i in
-    omega (arith, each_length escaped_byte s i c.loop-i-test.true, ap length (plain (get_or s i 0) (inr c.if-b-lt63.false)))
+    omega (arith, each_length escaped_byte s i c.loop-i-test.true, ap length (plain (get_or s i 0) (inr (omega arith))))
 
 pub returns : goal.returns
 returns c = omega (arith, ap length (each_end escaped_byte c.args.block.now c.loop-i.i c.loop-i-test.false))

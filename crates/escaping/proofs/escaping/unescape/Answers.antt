@@ -1,10 +1,11 @@
 use Prim.Native.Nat.{◌-◌}
 use mathlib.Core.Path.{refl, ap, ◌∙◌}
-use mathlib.Core.Logic.{⊎_elim, inl, inr}
+use mathlib.Core.Logic.{inl, inr}
 use native.Mathlib.Omega.{arith}
 use lib.ListN.{length, length-replicate}
 use Rattle.escaping.proofs.LawsUnescaping.{fill_begin, fill_step, fill_refused, fill_accepted, unescape_ended, unescape_short, plain_turn, trailing_turn, escape_turn, bad_turn, unescape_end}
 use Rattle.escaping.proofs.escaping.unescape.Goals as goal
+use Rattle.escaping.proofs.escaping.unescape.Goals.{in_default-via-then-e-lt44, in_default-via-else-e-lt44+else-e-lt47}
 
 pub returns-then-out-src : goal.returns-then-out-src
 returns-then-out-src c = let a = c.args in rw (unescape_short a.src.now a.out.now c.if-out-src.true) (record { result_value = refl; out_after = refl })
@@ -39,7 +40,7 @@ loop-i-preserved c =
     let t = c in
     let l = t.loop-i in
     let a = c.args in
-    (omega arith, omega arith, omega arith, fill_step t.loop-i.invariant.3 (escape_turn a.src.now t.loop-i.i t.loop-i-test.true c.if-b-ne-SENTRY.false c.if-src-i.false c.if-e-lt44.false c.if-e-lt47.true))
+    (omega arith, omega arith, omega arith, fill_step t.loop-i.invariant.3 (escape_turn a.src.now t.loop-i.i t.loop-i-test.true c.if-b-ne-SENTRY.false c.if-src-i.false (omega arith) (omega arith)))
 
 pub shape_of-out-in_default : goal.shape_of-out-in_default
 shape_of-out-in_default c = ap length c.wipe-in_default.ensures ∙ simp length-replicate c.loop-i.invariant.3.same
@@ -49,7 +50,7 @@ returns-in_default c =
     let t = c in
     let l = t.loop-i in
     let a = c.args in
-    rw (unescape_ended a.src.now a.out.now t.loop-i.invariant.2 (fill_refused t.loop-i.invariant.3 (bad_turn a.src.now t.loop-i.i t.loop-i-test.true c.if-b-ne-SENTRY.false c.if-src-i.false (⊎_elim (λ w. inl w.taken) (λ w. inr w.1.left) c.if-e-lt44.branch)))) (record { result_value = refl; out_after = c.wipe-in_default.ensures })
+    rw (unescape_ended a.src.now a.out.now t.loop-i.invariant.2 (fill_refused t.loop-i.invariant.3 (bad_turn a.src.now t.loop-i.i t.loop-i-test.true c.if-b-ne-SENTRY.false c.if-src-i.false (elim c.in_default.branch [ in_default-via-then-e-lt44 w ↦ inl (omega arith) | in_default-via-else-e-lt44+else-e-lt47 w ↦ inr (omega arith) ])))) (record { result_value = refl; out_after = c.wipe-in_default.ensures })
 
 pub shape_of-out : goal.shape_of-out
 shape_of-out c = c.loop-i.invariant.3.same
