@@ -3,7 +3,7 @@ use Rattle.std.proofs.Common.{◌≡◌, ℕ, suc, ◌+◌, ◌-◌, ◌<◌, �
 use native.Mathlib.Nat.{sub-zero}
 use lib.Seq.{sets, sets-eq, length-sets, append_snoc}
 use borrow.Rule.Slice.PartMut.{put_mid}
-use Rattle.base.specs.Outcome.{Outcome, accepted, refused, pick}
+use Rattle.base.specs.Outcome.{accepted, refused, pick}
 use Rattle.base.specs.Writing.{WriteEffect, over, zeros, zeroed_from, write_or, write_call}
 use Rattle.base.specs.Stored.{Stored}
 

@@ -9,7 +9,7 @@ use lib.ListN.{length, take, drop, get_or, length-append, drop_of_length-le}
 use lib.Seq.{drop-cons}
 use lib.Dec.{eqb}
 use borrow.Author.Tests.{ne_eqb}
-use Rattle.base.specs.Outcome.{Outcome, pick}
+use Rattle.base.specs.Outcome.{pick}
 use Rattle.escaping.specs.Escaping.{START, END, SENTRY, escaped_byte, each_of, escape_of}
 use Rattle.base.proofs.LawsTests.{by_eqb}
 use Rattle.base.proofs.LawsWriting.{Begins, part_begins}

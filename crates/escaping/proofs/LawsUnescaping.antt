@@ -1,5 +1,5 @@
 -- Laws of unescaping, and of a loop that fills an output and can refuse on the way. Assumes nothing.
-use Prim.Native.Nat.{ℕ, suc, ◌+◌, ◌-◌, ◌≤◌, ◌<◌}
+use Prim.Native.Nat.{ℕ, suc, ◌+◌, ◌≤◌, ◌<◌}
 use mathlib.Core.Path.{◌≡◌, refl, sym, ap, ◌∙◌}
 use mathlib.Core.Logic.{◌⊎◌, inl, inr}
 use mathlib.Core.List.{List, [], ◌∷◌}
@@ -10,7 +10,7 @@ use lib.Seq.{sets, drop-cons}
 use lib.Dec.{eqb}
 use borrow.Author.Tests.{ne_eqb, le-ltb, lt-ltb}
 use Rattle.base.specs.Outcome.{Outcome, accepted, refused, pick, on_accepted}
-use Rattle.base.specs.Writing.{WriteEffect, zeros}
+use Rattle.base.specs.Writing.{zeros}
 use Rattle.escaping.specs.Escaping.{START, END, SENTRY, then_byte, escapee_then, unescape_of, escapee_of, unescape_left, unescape_call}
 use Rattle.base.proofs.LawsTests.{by_eqb, by_ltb}
 use Rattle.base.proofs.LawsWriting.{front}

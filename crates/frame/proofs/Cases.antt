@@ -9,8 +9,8 @@ use Rattle.base.specs.Outcome.{accepted, refused}
 use Rattle.base.specs.DataType.{from_wire}
 use Rattle.base.specs.Sum.{total, checksum_of}
 use Rattle.escaping.specs.Escaping.{each_of, escaped_byte, escapee_then, unescape_of}
-use Rattle.base.specs.Writing.{write_or, WriteEffect}
-use Rattle.framing.specs.Framing.{body_of, frame_of, pack_call, ack_call, Header, body_checked, marked, UnpackEffect, unpack_call}
+use Rattle.base.specs.Writing.{write_or}
+use Rattle.framing.specs.Framing.{body_of, frame_of, pack_call, ack_call, body_checked, marked, unpack_call}
 use Rattle.base.specs.declared.data_type.DataType.TheVariants.{Data, DataMdr}
 use Rattle.framing.proofs.LawsFraming.{unpack_long}
 

@@ -4,19 +4,17 @@ use mathlib.Core.Path.{◌≡◌, refl, sym, ap, ◌∙◌}
 use mathlib.Core.Bool.{Bool, true, false}
 use mathlib.Core.List.{List, [], ◌∷◌, ◌++◌, append_assoc}
 use native.Mathlib.Nat.{div-div-eq-div-mul}
-use native.Mathlib.Numerals.{add-one}
 use native.Mathlib.Omega.{arith}
-use lib.ListN.{length, take, drop, get_or, replicate, length-append, length-take, length-drop}
-use lib.Seq.{take_at, take-suc, take_all, drop_at, get_or_at, length-take-le}
+use lib.ListN.{length, take, drop, get_or, length-append}
+use lib.Seq.{take_at, take-suc, take_all, get_or_at, length-take-le}
 use lib.Dec.{ltb, eqb}
-use borrow.Author.Tests.{lt-ltb, le-ltb, eq-eqb, ne_eqb, ltb-true, ltb-false, eqb-true, eqb-false}
-use Rattle.base.specs.Outcome.{Outcome, accepted, refused, pick, on_accepted}
-use Rattle.base.specs.DataType.{from_wire, to_wire}
-use Rattle.base.specs.Sum.{total, checksum_of}
-use Rattle.escaping.specs.Escaping.{START, END, SENTRY, escaped_byte, each_of, escape_of, then_byte, escapee_then, unescape_of, escapee_of}
+use borrow.Author.Tests.{le-ltb, eq-eqb, ne_eqb, ltb-false, eqb-true, eqb-false}
+use Rattle.base.specs.Outcome.{Outcome, accepted, refused, pick}
+use Rattle.base.specs.DataType.{to_wire}
+use Rattle.base.specs.Sum.{checksum_of}
+use Rattle.escaping.specs.Escaping.{START, END, SENTRY, escaped_byte, each_of, escape_of, then_byte, escapee_then, unescape_of}
 use Rattle.framing.specs.Framing.{length_field, summed_of, body_of, frame_of, Header, length_of, carried, summed, body_checked, then_checked, inner, marked, unpack_of, payload_of, repacked, header_of, unpack_by, unpack_call}
 use Rattle.base.specs.declared.data_type.DataType.{DataType}
-use Rattle.base.proofs.LawsTests.{by_eqb}
 use Rattle.base.proofs.LawsDataType.{Yielded, returns}
 use Rattle.escaping.proofs.LawsEscaping.{each_byte, special, plain_byte, no_shorter}
 use Rattle.escaping.proofs.LawsUnescaping.{unescape_ind}

@@ -1,12 +1,12 @@
 -- Laws of packing and unpacking, one for each return of the code. Assumes nothing.
-use Rattle.std.proofs.Common.{◌≡◌, ℕ, zero, suc, ◌+◌, ◌-◌, ◌*◌, ◌%◌, ◌<◌, ◌≤◌, Bool, true, false, eqb, ltb, List, [], ◌∷◌, ◌++◌, length, get_or, take, drop, replicate, sym, refl, ap, ◌∙◌, arith, length-append, length-drop, length-take, length-take-le, get_or-take, take-take, take_at, ltb-false, ltb-true, le-ltb, lt-ltb, eq-eqb, ne_eqb}
+use Rattle.std.proofs.Common.{◌≡◌, ℕ, ◌+◌, ◌-◌, ◌*◌, ◌%◌, ◌<◌, ◌≤◌, Bool, true, false, eqb, ltb, List, [], ◌∷◌, ◌++◌, length, get_or, take, drop, sym, refl, ap, ◌∙◌, arith, length-append, length-drop, length-take, length-take-le, get_or-take, take-take, take_at, ltb-false, le-ltb, lt-ltb, eq-eqb, ne_eqb}
 use Rattle.base.specs.Outcome.{Outcome, accepted, refused, pick, on_accepted}
 use Rattle.base.specs.DataType.{from_wire, to_wire}
-use Rattle.base.specs.Sum.{total, checksum_of}
-use Rattle.base.specs.Writing.{WriteEffect, over, zeros, zeroed_from, write_call}
+use Rattle.base.specs.Sum.{checksum_of}
+use Rattle.base.specs.Writing.{WriteEffect, zeros, zeroed_from, write_call}
 use Rattle.base.specs.Stored.{Stored}
 use Rattle.escaping.specs.Escaping.{START, END, escaped_byte, escape_of, unescape_of, unescape_left, unescape_call}
-use Rattle.framing.specs.Framing.{length_field, body_of, frame_of, pack_call, Header, length_of, body_checked, then_checked, inner, marked, unpack_of, UnpackEffect, unpack_by, unpack_call}
+use Rattle.framing.specs.Framing.{length_field, body_of, frame_of, pack_call, length_of, body_checked, then_checked, inner, marked, unpack_of, unpack_by, unpack_call}
 use Rattle.base.specs.declared.data_type.DataType.{DataType}
 use Rattle.base.proofs.LawsSum.{checksum_append}
 use Rattle.escaping.proofs.LawsEscaping.{each_append, each_width, escaped_width}

@@ -1,4 +1,4 @@
-use Rattle.std.proofs.Common.{◌-◌, arith}
+use Rattle.std.proofs.Common.{arith}
 use Rattle.base.proofs.LawsSum.{total_step, total_end}
 use Rattle.base.proofs.sum.checksum.Goals as goal
 

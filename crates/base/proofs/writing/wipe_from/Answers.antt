@@ -1,4 +1,4 @@
-use Rattle.std.proofs.Common.{◌-◌, refl, ◌∙◌, arith, length-set}
+use Rattle.std.proofs.Common.{refl, ◌∙◌, arith, length-set}
 use Rattle.base.proofs.LawsWriting.{zeroed_step, zeroed_end}
 use Rattle.base.proofs.writing.wipe_from.Goals as goal
 

@@ -1,4 +1,3 @@
-use Prim.Native.Nat.{◌-◌}
 use native.Mathlib.Omega.{arith}
 use Rattle.escaping.specs.Escaping.{escaped_byte}
 use Rattle.escaping.proofs.LawsEscaping.{each_step, each_end}

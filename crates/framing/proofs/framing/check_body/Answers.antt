@@ -1,4 +1,4 @@
-use Rattle.std.proofs.Common.{◌-◌, sym, refl, arith, length-take-le}
+use Rattle.std.proofs.Common.{sym, refl, arith, length-take-le}
 use Rattle.framing.proofs.LawsFraming.{check_short, check_sum, check_length, check_good}
 use Rattle.framing.proofs.framing.check_body.Goals as goal
 

@@ -1,4 +1,4 @@
-use Rattle.std.proofs.Common.{◌-◌, refl, arith}
+use Rattle.std.proofs.Common.{refl, arith}
 use Rattle.framing.proofs.LawsFraming.{pack_long, pack_by}
 use Rattle.framing.proofs.framing.pack.Goals as goal
 

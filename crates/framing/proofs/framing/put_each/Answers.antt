@@ -1,4 +1,4 @@
-use Rattle.std.proofs.Common.{◌-◌, arith}
+use Rattle.std.proofs.Common.{arith}
 use Rattle.escaping.specs.Escaping.{escaped_byte}
 use Rattle.escaping.proofs.LawsEscaping.{each_step, each_end}
 use Rattle.base.proofs.LawsWriting.{begin, room_for, step, stored}

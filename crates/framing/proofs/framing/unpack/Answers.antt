@@ -1,4 +1,4 @@
-use Rattle.std.proofs.Common.{◌-◌, sym, refl, ap, ◌∙◌}
+use Rattle.std.proofs.Common.{sym, refl, ap, ◌∙◌}
 use Rattle.base.specs.Writing.{written_told}
 use Rattle.framing.proofs.LawsFraming.{unpack_short, unpack_start, unpack_end, unpack_not, unpack_body}
 use Rattle.framing.proofs.framing.unpack.Goals as goal

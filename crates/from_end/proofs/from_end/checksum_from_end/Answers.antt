@@ -16,7 +16,8 @@ returns c =
     let l = c.loop-i in
     let bytes = c.args.bytes.now in
     let joined : back_onto c.if-i-ge8.total (take c.if-i-ge8.i bytes) ≡ back_onto c.args.sum bytes =
-        elim c.if-i-ge8.branch [
-            then-i-ge8 w ↦ rw (w.total-is, w.i-is) (back_block l.total w.back-total-then-i-ge8.result bytes l.i (l.i - 8) (l.i - (l.i - 8)) (omega arith) w.back-total-then-i-ge8.ensures ∙ l.invariant.1)
-          | else-i-ge8 w ↦ rw (w.total-is, w.i-is) l.invariant.1 ] in
+    elim c.if-i-ge8.branch [
+      | then-i-ge8 w ↦ rw (w.total-is, w.i-is) (back_block l.total w.back-total-then-i-ge8.result bytes l.i (l.i - 8) (l.i - (l.i - 8)) (omega arith) w.back-total-then-i-ge8.ensures ∙ l.invariant.1)
+      | else-i-ge8 w ↦ rw (w.total-is, w.i-is) l.invariant.1
+    ] in
     sym (back_none c.back.result bytes 0 (omega arith)) ∙ back_block c.if-i-ge8.total c.back.result bytes c.if-i-ge8.i 0 (c.if-i-ge8.i - 0) (omega arith) c.back.ensures ∙ joined

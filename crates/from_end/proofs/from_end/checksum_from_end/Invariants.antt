@@ -1,4 +1,4 @@
-use Rattle.std.proofs.Common.{◌≡◌, ◌-◌, ◌≤◌, length, take}
+use Rattle.std.proofs.Common.{◌≡◌, ◌≤◌, length, take}
 use Rattle.from_end.specs.FromEnd.{back_onto}
 use Rattle.from_end.proofs.from_end.checksum_from_end.Given as goal
 

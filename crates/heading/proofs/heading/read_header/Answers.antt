@@ -1,4 +1,4 @@
-use Rattle.std.proofs.Common.{◌-◌, sym, ◌∙◌}
+use Rattle.std.proofs.Common.{sym, ◌∙◌}
 use Rattle.heading.proofs.LawsHeading.{head_short, head_start, head_no_end, head_inner}
 use Rattle.heading.proofs.heading.read_header.Goals as goal
 

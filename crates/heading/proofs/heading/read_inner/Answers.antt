@@ -1,4 +1,4 @@
-use Rattle.std.proofs.Common.{◌-◌, sym, ap, ◌∙◌, arith}
+use Rattle.std.proofs.Common.{sym, ap, ◌∙◌, arith}
 use Rattle.heading.specs.Pass.{passed_told}
 use Rattle.heading.proofs.LawsPass.{rest_of, pass_read}
 use Rattle.heading.proofs.LawsHeading.{turn, turned_away_lem, turn_end}

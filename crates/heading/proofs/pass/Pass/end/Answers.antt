@@ -1,5 +1,5 @@
 use Rattle.heading.proofs.LawsPass.{end_trailing, end_short, end_sum, end_length, end_good}
-use Rattle.std.proofs.Common.{◌-◌, sym}
+use Rattle.std.proofs.Common.{sym}
 use Rattle.heading.proofs.pass.Pass.end.Goals as goal
 
 pub returns-then-self : goal.returns-then-self
