@@ -1,7 +1,6 @@
 use Prim.Native.Nat.{◌+◌, ◌-◌}
 use mathlib.Core.Path.{sym}
 use native.Mathlib.Omega.{arith}
-use borrow.Author.Tests.{not-false}
 use Rattle.text.proofs.LawsText.{onto_nothing, plain_on, part_on}
 use Rattle.text.proofs.text.plain_front.Goals as goal
 
@@ -12,7 +11,7 @@ pub returns-then-not-plain : goal.returns-then-not-plain
 returns-then-not-plain c = c.loop-i.invariant
 
 pub loop-i-preserved : goal.loop-i-preserved
-loop-i-preserved c = let l = c.loop-i in (omega arith, part_on _ _ c.loop-i.i (c.loop-i.i + 8) c.loop-i.invariant.1 (omega arith) (omega arith) (c.plain.ensures (not-false _ c.if-not-plain.false)))
+loop-i-preserved c = let l = c.loop-i in (omega arith, part_on _ _ c.loop-i.i (c.loop-i.i + 8) c.loop-i.invariant.1 (omega arith) (omega arith) (c.plain.ensures c.if-not-plain.false))
 
 pub loop-i-2-init : goal.loop-i-2-init
 loop-i-2-init c = c.loop-i.invariant

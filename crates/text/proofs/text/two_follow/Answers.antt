@@ -18,10 +18,8 @@ returns-then-follows c =
     let a = c.args in
     let first = sym c.follows.ensures ∙ c.if-follows.true in
     let r = c.follows-then-follows in
-    let two : a.at + 1 + 1 ≡ a.at + 2 = omega arith in (
-      follow_on a.bytes.now a.at a.low a.high 1 first ∙ follow_last a.bytes.now (a.at + 1) 0x80 0xBF c.follows-then-follows.result c.follows-then-follows.ensures ∙ ap (λ (k : ℕ). pick c.follows-then-follows.result (characters_of (drop k a.bytes.now)) NoText) two,
-      λ e. omega (arith, follows_in a.bytes.now (a.at + 1) 0x80 0xBF (sym c.follows-then-follows.ensures ∙ e)),
-    )
+    let two : a.at + 1 + 1 ≡ a.at + 2 = omega arith in
+    record { bytes_value = follow_on a.bytes.now a.at a.low a.high 1 first ∙ follow_last a.bytes.now (a.at + 1) 0x80 0xBF c.follows-then-follows.result c.follows-then-follows.ensures ∙ ap (λ (k : ℕ). pick c.follows-then-follows.result (characters_of (drop k a.bytes.now)) NoText) two; at_in_bounds = λ e. omega (arith, follows_in a.bytes.now (a.at + 1) 0x80 0xBF (sym c.follows-then-follows.ensures ∙ e)) }
 
 pub returns-else-follows : goal.returns-else-follows
 returns-else-follows c =
