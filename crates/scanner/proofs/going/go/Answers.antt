@@ -1,25 +1,25 @@
-use Prim.Native.Nat.{ℕ, ◌+◌}
+use Prim.Native.Nat.{ℕ, ◌+◌, ◌-◌, ◌≤◌}
 use mathlib.Core.Path.{◌≡◌, refl, sym, ap, ◌∙◌}
+use mathlib.Core.List.{List}
 use lib.ListN.{length, take, drop}
 use Rattle.scanner.specs.Scanner.{counted_of, counted_told}
+use Rattle.scanner.specs.declared.scanner.Scanner.{Scanner}
+use Rattle.scanner.specs.declared.scanner.Counted.{Counted}
+use Rattle.cutting.specs.declared.deciding.Moved.{Moved}
 use Rattle.scanner.proofs.LawsScanner.{stays}
 use Rattle.scanner.proofs.going.go.Goals as goal
-use Rattle.scanner.proofs.going.go.Lts as lts
 
 -- the count of what stays is that of the code
-
-told : (c : lts.After-advance)
-    → let a = c.args in
-    counted_told c.advance.result ≡ counted_of a.scanner (length (drop (a.dropped + a.handed) (take a.scanner.count a.store-1.now))) (record { pushed = 0; handed = a.handed; dropped = a.dropped })
-told c =
-    let a = c in
-    c.advance.ensures ∙ ap (λ (n : ℕ). counted_of a.args.scanner n (record { pushed = 0; handed = a.args.handed; dropped = a.args.dropped })) (sym (stays a.args.scanner a.args.store.now (a.args.dropped + a.args.handed) a.requires.0))
+told : (s : Scanner) (store : List ℕ) (n : ℕ) (m : Moved) (x : Counted) → s.count ≤ length store → counted_told x ≡ counted_of s (s.count - n) m
+    → counted_told x ≡ counted_of s (length (drop n (take s.count store))) m
+told s store n m x h e = e ∙ ap (λ (k : ℕ). counted_of s k m) (sym (stays s store n h))
 
 pub returns-in-Refused : goal.returns-in-Refused
 returns-in-Refused c =
-    let k = c in
-    rw (← told k, c.in-Refused.is) (record { result_value = refl; store_after = refl })
+    let a = c.args in
+    rw (← told a.scanner a.store.now (a.dropped + a.handed) _ _ c.requires.0 c.advance.ensures, c.in-Refused.is) (record { result_value = refl; store_after = refl })
 
 pub returns-in-Next : goal.returns-in-Next
 returns-in-Next c =
-    rw (← told c, c.in-Next.is) (record { result_value = refl; store_after = c.let_go.ensures.store_after })
+    let a = c.args in
+    rw (← told a.scanner a.store.now (a.dropped + a.handed) _ _ c.requires.0 c.advance.ensures, c.in-Next.is) (record { result_value = refl; store_after = c.let_go.ensures.store_after })
