@@ -9,7 +9,7 @@ fn main() {
     };
     let lib = dir.join("libffi.a");
     if !lib.is_file() {
-        panic!("no {}: run `rt staticlib ffi` in the repository, or set MDR_LIB_DIR", lib.display());
+        panic!("no {}: run `tools/make ffi` in the repository, or set MDR_LIB_DIR", lib.display());
     }
     println!("cargo:rerun-if-env-changed=MDR_LIB_DIR");
     println!("cargo:rerun-if-changed={}", lib.display());
