@@ -1,19 +1,17 @@
 // What the program prints.
-use libc::{STDERR_FILENO, STDOUT_FILENO};
-
-pub fn complain(text: &[u8]) {
-    io::write_all(STDERR_FILENO, text);
+pub fn complain(rt: HostRuntime, text: &[u8]) {
+    let _ = rt.stderr().write_all(text);
 }
 
 // Tells what is wrong with a line, by its number.
-pub fn complain_of(number: u64, what: &[u8]) {
-    complain(b"bill: line ");
-    io::print_decimal(STDERR_FILENO, number);
-    complain(what);
+pub fn complain_of(rt: HostRuntime, number: u64, what: &[u8]) {
+    complain(rt, b"bill: line ");
+    let _ = rt.stderr().print(number);
+    complain(rt, what);
 }
 
-pub fn tell(name: &[u8], n: u64) -> bool {
-    io::write_all(STDOUT_FILENO, name)
-        && io::print_decimal(STDOUT_FILENO, n)
-        && io::write_all(STDOUT_FILENO, b"\n")
+pub fn tell(rt: HostRuntime, name: &[u8], n: u64) -> bool {
+    rt.stdout().write_all(name).is_ok()
+        && rt.stdout().print(n).is_ok()
+        && rt.stdout().write_all(b"\n").is_ok()
 }

@@ -5,6 +5,7 @@ ghost use Rattle.line_input.specs.State.{held_of};
 ghost use Rattle.line_input.specs.Filling.{at_front, Filled};
 
 use crate::state::{Input, least};
+use std::io::Read;
 
 // The bytes from `from` to `to`, at the front. Those of a line that goes on are there already, so that no byte moves twice.
 fn shift(buf: &mut [u8], from: usize, to: usize)
@@ -43,7 +44,7 @@ fn to_front(input: Input, buf: &mut [u8]) -> Input
 }
 
 // A buffer with no room left cannot be filled, which is told as a read that failed.
-pub fn fill(input: Input, fd: i32, buf: &mut [u8]) -> Input
+pub fn fill<R: Read>(input: Input, reader: &mut R, buf: &mut [u8]) -> Input
     ensures { Filled input buf.old result buf.new }
 {
     let mut next = to_front(input, buf);
@@ -52,15 +53,18 @@ pub fn fill(input: Input, fd: i32, buf: &mut [u8]) -> Input
         next.failed = true;
         return next;
     }
-    let got = libc::read(fd, &mut buf[end..]);
-    if got < 0 {
-        next.failed = true;
-        return next;
+    match reader.read(&mut buf[end..]) {
+        Err(_) => {
+            next.failed = true;
+            next
+        }
+        Ok(0) => {
+            next.ended = true;
+            next
+        }
+        Ok(got) => {
+            next.end = end + got;
+            next
+        }
     }
-    if got == 0 {
-        next.ended = true;
-        return next;
-    }
-    next.end = end + io::count(got, &buf[end..]);
-    next
 }

@@ -27,7 +27,7 @@ fn not_printed(window: NoiseWindow) -> Lines
 }
 
 // At the front of the output, once the lines that stood there are printed.
-fn tell_at_front(window: NoiseWindow, out: &mut [u8]) -> Lines
+fn tell_at_front(rt: HostRuntime, window: NoiseWindow, out: &mut [u8]) -> Lines
     ensures { result.ready ≤ length out.old }
 {
     match write_counts(counts(window), out) {
@@ -37,14 +37,14 @@ fn tell_at_front(window: NoiseWindow, out: &mut [u8]) -> Lines
             printed: true,
         },
         Written::Refused(_) => {
-            complain(b"modes: a line was refused\n");
+            complain(rt, b"modes: a line was refused\n");
             not_printed(window)
         }
     }
 }
 
 // The window's line, behind those that stand in the output.
-fn tell(window: NoiseWindow, out: &mut [u8], ready: usize) -> Lines
+fn tell(rt: HostRuntime, window: NoiseWindow, out: &mut [u8], ready: usize) -> Lines
     requires { ready ≤ length out.old }
     ensures { result.ready ≤ length out.old }
 {
@@ -55,22 +55,29 @@ fn tell(window: NoiseWindow, out: &mut [u8], ready: usize) -> Lines
             printed: true,
         },
         Written::Refused(_) => {
-            if !print(&out[..ready]) {
+            if !print(rt, &out[..ready]) {
                 return not_printed(window);
             }
-            tell_at_front(window, out)
+            tell_at_front(rt, window, out)
         }
     }
 }
 
 // A span's report, if it holds one, is handed to the window.
-fn tell_span(lines: Lines, frame: &[u8], plan: &[u8], work: &mut [u8], out: &mut [u8]) -> Lines
+fn tell_span(
+    rt: HostRuntime,
+    lines: Lines,
+    frame: &[u8],
+    plan: &[u8],
+    work: &mut [u8],
+    out: &mut [u8],
+) -> Lines
     requires { lines.ready ≤ length out.old }
     ensures { result.ready ≤ length out.old }
 {
     let window = lines.window;
     match noise_in(plan, frame, work) {
-        NoiseFrame::Report(report) => tell(push(window, report), out, lines.ready),
+        NoiseFrame::Report(report) => tell(rt, push(window, report), out, lines.ready),
         NoiseFrame::Other => lines,
     }
 }
@@ -103,6 +110,7 @@ pub struct Told {
 
 // The reports of all spans of these bytes.
 pub fn tell_spans(
+    rt: HostRuntime,
     window: NoiseWindow,
     held: &[u8],
     plan: &[u8],
@@ -130,7 +138,7 @@ pub fn tell_spans(
         }
         let at = past + span.at;
         let end = at + span.len;
-        lines = tell_span(lines, &held[at..end], plan, work, out);
+        lines = tell_span(rt, lines, &held[at..end], plan, work, out);
         dropped += span.at;
         handed += span.len;
     }

@@ -1,14 +1,12 @@
 // What the program prints.
-use libc::{STDERR_FILENO, STDOUT_FILENO};
-
-pub fn complain(text: &[u8]) {
-    io::write_all(STDERR_FILENO, text);
+pub fn complain(rt: HostRuntime, text: &[u8]) {
+    let _ = rt.stderr().write_all(text);
 }
 
-pub fn print(lines: &[u8]) -> bool {
-    let written = io::write_all(STDOUT_FILENO, lines);
+pub fn print(rt: HostRuntime, lines: &[u8]) -> bool {
+    let written = rt.stdout().write_all(lines).is_ok();
     if !written {
-        complain(b"modes: cannot write to standard output\n");
+        complain(rt, b"modes: cannot write to standard output\n");
     }
     written
 }
