@@ -5,48 +5,48 @@ use crate::shown::{address, name};
 use lists::{EqShape, SupportFunction, Table};
 use paired::{PairedDevice, PairedLookup};
 
-pub fn equalizer_report(preset: u8, steps: &[u8]) {
-    say(b"equalizer preset ");
-    byte(preset);
-    say(b", ");
-    counted(steps.len(), b"step");
-    shape(EqShape::of(steps.len()));
+pub fn equalizer_report(rt: &impl Print, preset: u8, steps: &[u8]) {
+    say(rt, b"equalizer preset ");
+    byte(rt, preset);
+    say(rt, b", ");
+    counted(rt, steps.len(), b"step");
+    shape(rt, EqShape::of(steps.len()));
     if steps.len() > 0 {
-        row();
-        say(b"steps ");
-        each_step(steps);
-        row();
-        say(b"gains ");
-        gains(steps);
+        row(rt);
+        say(rt, b"steps ");
+        each_step(rt, steps);
+        row(rt);
+        say(rt, b"gains ");
+        gains(rt, steps);
     }
 }
 
-fn shape(s: EqShape) {
+fn shape(rt: &impl Print, s: EqShape) {
     match s {
-        EqShape::ClearBassAndFive => say(b", clear bass and five bands"),
-        EqShape::TenBands => say(b", ten bands"),
-        EqShape::Unknown => say(b", of no known shape"),
+        EqShape::ClearBassAndFive => say(rt, b", clear bass and five bands"),
+        EqShape::TenBands => say(rt, b", ten bands"),
+        EqShape::Unknown => say(rt, b", of no known shape"),
     }
 }
 
-fn each_step(steps: &[u8]) {
+fn each_step(rt: &impl Print, steps: &[u8]) {
     let mut i = 0;
     while i < steps.len() {
-        gap(i);
-        step(steps[i]);
+        gap(rt, i);
+        step(rt, steps[i]);
         i += 1;
     }
 }
 
-fn step(b: u8) {
-    number(b as usize);
+fn step(rt: &impl Print, b: u8) {
+    number(rt, b as usize);
 }
 
-fn gains(steps: &[u8]) {
+fn gains(rt: &impl Print, steps: &[u8]) {
     let mut i = 0;
     while i < steps.len() {
-        gap(i);
-        signed(lists::gain(steps.len(), steps[i]));
+        gap(rt, i);
+        signed(rt, lists::gain(steps.len(), steps[i]));
         i += 1;
     }
 }
@@ -60,100 +60,105 @@ fn gain_at(i: usize) -> i32 {
     below[(i - 250) % 10]
 }
 
-fn gain_place(i: usize) {
+fn gain_place(rt: &impl Print, i: usize) {
     if i < 250 {
-        number(i);
+        number(rt, i);
         return;
     }
-    say(b"-");
-    number(i - 249);
+    say(rt, b"-");
+    number(rt, i - 249);
 }
 
 // A gain by its place in their list: no cast takes a number's sign off.
-fn signed(n: i32) {
+fn signed(rt: &impl Print, n: i32) {
     let mut i = 0;
     while i < 260 {
         if gain_at(i) == n {
-            gain_place(i);
+            gain_place(rt, i);
             return;
         }
         i += 1;
     }
 }
 
-pub fn functions_report(table: Table, count: usize, records: [SupportFunction; 512]) {
-    counted(count, b"supported function");
+pub fn functions_report(
+    rt: &impl Print,
+    table: Table,
+    count: usize,
+    records: [SupportFunction; 512],
+) {
+    counted(rt, count, b"supported function");
     match table {
-        Table::One => say(b" of table One"),
-        Table::Two => say(b" of table Two"),
+        Table::One => say(rt, b" of table One"),
+        Table::Two => say(rt, b" of table Two"),
     }
     if count > 0 {
-        say(b", code and priority:");
-        row();
-        functions(count, records);
+        say(rt, b", code and priority:");
+        row(rt);
+        functions(rt, count, records);
     }
 }
 
-fn functions(count: usize, records: [SupportFunction; 512]) {
+fn functions(rt: &impl Print, count: usize, records: [SupportFunction; 512]) {
     let mut i = 0;
     while i < 512 {
         if i >= count {
             return;
         }
         let f = records[i];
-        next_function(i);
-        function(f);
+        next_function(rt, i);
+        function(rt, f);
         i += 1;
     }
 }
 
-fn next_function(i: usize) {
+fn next_function(rt: &impl Print, i: usize) {
     if i == 0 {
         return;
     }
-    say(b",");
+    say(rt, b",");
     if i % 8 == 0 {
-        row();
+        row(rt);
     } else {
-        say(b" ");
+        say(rt, b" ");
     }
 }
 
-fn function(f: SupportFunction) {
-    byte(f.code);
-    say(b" ");
-    byte(f.priority);
+fn function(rt: &impl Print, f: SupportFunction) {
+    byte(rt, f.code);
+    say(rt, b" ");
+    byte(rt, f.priority);
 }
 
-pub fn devices_report(count: usize, payload: &[u8]) {
-    counted(count, b"paired device");
+pub fn devices_report(rt: &impl Print, count: usize, payload: &[u8]) {
+    counted(rt, count, b"paired device");
     let mut i = 0;
     while i < count {
-        row();
-        lookup(payload, i);
+        row(rt);
+        lookup(rt, payload, i);
         i += 1;
     }
 }
 
-fn lookup(payload: &[u8], index: usize) {
+fn lookup(rt: &impl Print, payload: &[u8], index: usize) {
     match paired::paired_device(payload, index) {
-        PairedLookup::Device(d) => device(payload, d),
-        PairedLookup::Refused(r) => refusal(r),
+        PairedLookup::Device(d) => device(rt, payload, d),
+        PairedLookup::Refused(r) => refusal(rt, r),
     }
 }
 
-fn device(payload: &[u8], d: PairedDevice) {
+fn device(rt: &impl Print, payload: &[u8], d: PairedDevice) {
     let characters = d.characters;
-    say(b"address ");
-    address(part(payload, d.address, 17));
-    say(b", status ");
-    byte(d.status);
-    say(b", details ");
-    byte(d.detail0);
-    say(b" ");
-    byte(d.detail1);
-    say(b" ");
-    byte(d.detail2);
-    say(b", name ");
-    name(part(payload, d.name, d.len), characters);
+    say(rt, b"address ");
+    address(rt, part(payload, d.address, 17));
+    say(rt, b", status ");
+    byte(rt, d.status);
+    say(rt, b", details ");
+    byte(rt, d.detail0);
+    say(rt, b" ");
+    byte(rt, d.detail1);
+    say(rt, b" ");
+    byte(rt, d.detail2);
+    say(rt, b", name ");
+    name(rt, part(payload, d.name, d.len), characters);
 }

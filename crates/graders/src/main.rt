@@ -20,27 +20,29 @@ mod shown;
 mod spans;
 mod sums;
 
-use libc::{STDERR_FILENO, STDIN_FILENO};
 use misreadings::misread;
 use parse::{Given, Word, complain, parsed, trimmed, word_of};
 use say::{byte_at, bytes, number, part, say};
 use shown::heading;
 use spans::each_span;
+use std::io::Read;
 use sums::sums;
 
 // A frame has at most the bytes of the longest span that the log is sure to have; the other sizes are those of `outlog`.
-fn main() {
+fn main(rt: HostRuntime) {
     let mut input = replay::room();
     let room = input.len();
     let mut frame = [0u8; 8193];
     let mut store = [0u8; 12288];
     let mut work = [0u8; 12288];
     let mut out = [0u8; 49152];
-    try_input();
-    let n = io::read_full(STDIN_FILENO, &mut input);
+    let mut stdin = rt.stdin();
+    try_input(&rt, &mut stdin);
+    let n = replay::read_full(&mut stdin, &mut input);
     each(
+        &rt,
         &input[..n],
-        is_cut(n, room),
+        is_cut(&mut stdin, n, room),
         &mut frame,
         &mut store,
         &mut work,
@@ -49,24 +51,25 @@ fn main() {
 }
 
 // Reads nothing, to tell a standard input that cannot be read from one that is empty.
-fn try_input() {
+fn try_input<R: Read>(rt: &impl Eprint, from: &mut R) {
     let mut one = [0u8; 1];
-    if libc::read(STDIN_FILENO, &mut one[..0]) < 0 {
-        io::write_all(STDERR_FILENO, b"graders: cannot read standard input\n");
+    if from.read(&mut one[..0]).is_err() {
+        let _ = rt.eprintln("graders: cannot read standard input");
     }
 }
 
 // Whether standard input has more than was read.
-fn is_cut(n: usize, room: usize) -> bool {
+fn is_cut<R: Read>(from: &mut R, n: usize, room: usize) -> bool {
     if n < room {
         return false;
     }
     let mut one = [0u8; 1];
-    libc::read(STDIN_FILENO, &mut one) > 0
+    from.read(&mut one).unwrap_or(0) > 0
 }
 
 // No line is shorter than a byte, so there are no more turns than bytes.
 fn each(
+    rt: &impl Print,
     input: &[u8],
     cut: bool,
     frame: &mut [u8],
@@ -82,13 +85,13 @@ fn each(
         if !is_whole(input, at, next, cut) {
             break;
         }
-        one_line(line, stretch(input, at, next), frame, store, work, out);
+        one_line(rt, line, stretch(input, at, next), frame, store, work, out);
         at = next;
         line = std::num::wrapping_add_usize(line, 1);
         turns -= 1;
     }
     if cut {
-        not_read(line, input.len());
+        not_read(rt, line, input.len());
     }
 }
 
@@ -105,15 +108,19 @@ fn is_whole(input: &[u8], at: usize, next: usize, cut: bool) -> bool {
     !cut || byte_at(input, std::num::wrapping_sub_usize(next, 1)) == b'\n'
 }
 
-fn not_read(line: usize, room: usize) {
-    say(b"what is wrong: line ");
-    number(line);
-    say(b" and those behind it are not read, since standard input has more than ");
-    number(room);
-    say(b" bytes\n");
+fn not_read(rt: &impl Print, line: usize, room: usize) {
+    say(rt, b"what is wrong: line ");
+    number(rt, line);
+    say(
+        rt,
+        b" and those behind it are not read, since standard input has more than ",
+    );
+    number(rt, room);
+    say(rt, b" bytes\n");
 }
 
 fn one_line(
+    rt: &impl Print,
     nth: usize,
     line: &[u8],
     frame: &mut [u8],
@@ -124,24 +131,31 @@ fn one_line(
     let text = trimmed(line);
     let word = word_of(text);
     if let Word::NoWord = word {
-        heading(text);
+        heading(rt, text);
         return;
     }
     match parsed(text, frame) {
-        Given::Bytes(n) => example(word, part(frame, 0, n), store, work, out),
-        Given::Wrong(fault) => complain(nth, fault),
+        Given::Bytes(n) => example(rt, word, part(frame, 0, n), store, work, out),
+        Given::Wrong(fault) => complain(rt, nth, fault),
     }
 }
 
-fn example(word: Word, given: &[u8], store: &mut [u8], work: &mut [u8], out: &mut [u8]) {
+fn example(
+    rt: &impl Print,
+    word: Word,
+    given: &[u8],
+    store: &mut [u8],
+    work: &mut [u8],
+    out: &mut [u8],
+) {
     let plan = masked_log::house_plan();
-    say(b"bytes  ");
-    bytes(given);
-    say(b"\n");
+    say(rt, b"bytes  ");
+    bytes(rt, given);
+    say(rt, b"\n");
     if let Word::Sum = word {
-        sums(given);
+        sums(rt, given);
         return;
     }
-    misread(word, given, &plan, work);
-    each_span(given, &plan, store, work, out);
+    misread(rt, word, given, &plan, work);
+    each_span(rt, given, &plan, store, work, out);
 }

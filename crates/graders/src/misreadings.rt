@@ -22,53 +22,54 @@ enum Body {
     NoBody,
 }
 
-pub fn misread(word: Word, given: &[u8], plan: &[u8], work: &mut [u8]) {
+pub fn misread(rt: &impl Print, word: Word, given: &[u8], plan: &[u8], work: &mut [u8]) {
     if let Word::Frame = word {
         return;
     }
-    say(b"wrong  ");
-    misreading(word, given, plan, work);
-    say(b"\n");
+    say(rt, b"wrong  ");
+    misreading(rt, word, given, plan, work);
+    say(rt, b"\n");
 }
 
-fn misreading(word: Word, given: &[u8], plan: &[u8], work: &mut [u8]) {
+fn misreading(rt: &impl Print, word: Word, given: &[u8], plan: &[u8], work: &mut [u8]) {
     match word {
-        Word::Start => restarted(given, plan, work),
-        Word::Length => length_first(given, work),
-        Word::Noise => level_first(given, plan, work),
-        Word::Masked => stars_first(given, plan, work),
+        Word::Start => restarted(rt, given, plan, work),
+        Word::Length => length_first(rt, given, work),
+        Word::Noise => level_first(rt, given, plan, work),
+        Word::Masked => stars_first(rt, given, plan, work),
         _ => {}
     }
 }
 
 // A reader who begins again at the next start byte.
-fn restarted(given: &[u8], plan: &[u8], work: &mut [u8]) {
+fn restarted(rt: &impl Print, given: &[u8], plan: &[u8], work: &mut [u8]) {
     match scanner::seek(given) {
         Sight::Both { at, len } => inner(
+            rt,
             given,
             std::num::wrapping_add_usize(at, 1),
             len,
             plan,
             work,
         ),
-        _ => say(b"there is no span to misread"),
+        _ => say(rt, b"there is no span to misread"),
     }
 }
 
 // What begins at the next start byte of a span of so many bytes, whose own is the last of those skipped.
-fn inner(given: &[u8], skipped: usize, len: usize, plan: &[u8], work: &mut [u8]) {
+fn inner(rt: &impl Print, given: &[u8], skipped: usize, len: usize, plan: &[u8], work: &mut [u8]) {
     let left = std::num::wrapping_sub_usize(given.len(), skipped);
     let rest = part(given, skipped, left);
     if let Sight::Both { at, len: found } = scanner::seek(rest) {
         if std::num::wrapping_add_usize(at, 1) < len {
-            say(b"a new frame begins at the 3E inside: ");
-            from_to(std::num::wrapping_add_usize(skipped, at), found);
-            say(b", ");
-            unpacked(part(rest, at, found), plan, work);
+            say(rt, b"a new frame begins at the 3E inside: ");
+            from_to(rt, std::num::wrapping_add_usize(skipped, at), found);
+            say(rt, b", ");
+            unpacked(rt, part(rest, at, found), plan, work);
             return;
         }
     }
-    say(b"there is no 3E inside to misread");
+    say(rt, b"there is no 3E inside to misread");
 }
 
 // The body of the first span goes to the work area, its checksum and length untested.
@@ -96,18 +97,18 @@ fn body_of(span: &[u8], work: &mut [u8]) -> Body {
 }
 
 // A reader who tests the length and not the checksum.
-fn length_first(given: &[u8], work: &mut [u8]) {
+fn length_first(rt: &impl Print, given: &[u8], work: &mut [u8]) {
     match untested(given, work) {
-        Body::Payload(actual) => compare(declared_len(work), actual),
-        Body::NoBody => say(b"there is no length to misread"),
+        Body::Payload(actual) => compare(rt, declared_len(work), actual),
+        Body::NoBody => say(rt, b"there is no length to misread"),
     }
 }
 
-fn compare(declared: usize, actual: usize) {
+fn compare(rt: &impl Print, declared: usize, actual: usize) {
     if declared == actual {
-        say(b"the length fits");
+        say(rt, b"the length fits");
     } else {
-        refusal(Refusal::LengthMismatch { declared, actual });
+        refusal(rt, Refusal::LengthMismatch { declared, actual });
     }
 }
 
@@ -130,54 +131,54 @@ fn entry_of(plan: &[u8], body: &[u8], len: usize) -> u8 {
 }
 
 // A reader to whom a level means ambient.
-fn level_first(given: &[u8], plan: &[u8], work: &mut [u8]) {
+fn level_first(rt: &impl Print, given: &[u8], plan: &[u8], work: &mut [u8]) {
     match untested(given, work) {
-        Body::Payload(len) => ambient(entry_of(plan, work, len), part(work, 6, len)),
-        Body::NoBody => no_report(),
+        Body::Payload(len) => ambient(rt, entry_of(plan, work, len), part(work, 6, len)),
+        Body::NoBody => no_report(rt),
     }
 }
 
-fn ambient(entry: u8, payload: &[u8]) {
+fn ambient(rt: &impl Print, entry: u8, payload: &[u8]) {
     if entry != NOISE {
-        no_report();
+        no_report(rt);
         return;
     }
     match payload::decode_noise(payload) {
         NoiseAnswer::Report(r) => {
             let level = r.ambient_level;
-            say(b"ambient");
-            in_decimal(level, b" level ");
+            say(rt, b"ambient");
+            in_decimal(rt, level, b" level ");
         }
-        NoiseAnswer::Refused(_) => no_report(),
+        NoiseAnswer::Refused(_) => no_report(rt),
     }
 }
 
-fn no_report() {
-    say(b"there is no noise control report to misread");
+fn no_report(rt: &impl Print) {
+    say(rt, b"there is no noise control report to misread");
 }
 
 // A reader who looks at the stars and not at the checksum.
-fn stars_first(given: &[u8], plan: &[u8], work: &mut [u8]) {
+fn stars_first(rt: &impl Print, given: &[u8], plan: &[u8], work: &mut [u8]) {
     match untested(given, work) {
-        Body::Payload(len) => gone(entry_of(plan, work, len), part(work, 6, len)),
-        Body::NoBody => no_phones(),
+        Body::Payload(len) => gone(rt, entry_of(plan, work, len), part(work, 6, len)),
+        Body::NoBody => no_phones(rt),
     }
 }
 
-fn gone(entry: u8, payload: &[u8]) {
+fn gone(rt: &impl Print, entry: u8, payload: &[u8]) {
     if entry != PAIRED {
-        no_phones();
+        no_phones(rt);
         return;
     }
     match paired::decode_paired_devices(payload) {
         PairedDevices::Count(count) => {
-            say(b"the phone is gone: ");
-            devices_report(count as usize, payload);
+            say(rt, b"the phone is gone: ");
+            devices_report(rt, count as usize, payload);
         }
-        PairedDevices::Refused(_) => no_phones(),
+        PairedDevices::Refused(_) => no_phones(rt),
     }
 }
 
-fn no_phones() {
-    say(b"there is no list of phones to misread");
+fn no_phones(rt: &impl Print) {
+    say(rt, b"there is no list of phones to misread");
 }

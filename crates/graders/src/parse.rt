@@ -175,33 +175,33 @@ pub fn parsed(line: &[u8], frame: &mut [u8]) -> Given {
 }
 
 // What is wrong with a line, by its number.
-pub fn complain(line: usize, fault: Fault) {
-    say(b"what is wrong: line ");
-    number(line);
+pub fn complain(rt: &impl Print, line: usize, fault: Fault) {
+    say(rt, b"what is wrong: line ");
+    number(rt, line);
     match fault {
-        Fault::NoBytes => say(b" has no bytes behind its word"),
+        Fault::NoBytes => say(rt, b" has no bytes behind its word"),
         Fault::NoDigit { at, b } => {
-            say(b", character ");
-            place(at);
-            say(b" is no hexadecimal digit: ");
-            stranger(b);
+            say(rt, b", character ");
+            place(rt, at);
+            say(rt, b" is no hexadecimal digit: ");
+            stranger(rt, b);
         }
         Fault::Split(at) => {
-            say(b", character ");
-            place(at);
-            say(b" is a blank behind the first of a byte's two digits");
+            say(rt, b", character ");
+            place(rt, at);
+            say(rt, b" is a blank behind the first of a byte's two digits");
         }
         Fault::Odd(n) => {
-            say(b" has an odd number of digits, ");
-            number(n);
-            say(b": its last byte has only one");
+            say(rt, b" has an odd number of digits, ");
+            number(rt, n);
+            say(rt, b": its last byte has only one");
         }
         Fault::TooMany { n, most } => {
-            say(b" has ");
-            number(n);
-            say(b" bytes, and a line takes at most ");
-            number(most);
+            say(rt, b" has ");
+            number(rt, n);
+            say(rt, b" bytes, and a line takes at most ");
+            number(rt, most);
         }
     }
-    say(b"\n");
+    say(rt, b"\n");
 }

@@ -11,7 +11,7 @@ use paired::PairedDevices;
 use payload::{BatteryAnswer, NoiseAnswer, SettingAnswer};
 use setting_info::SettingInfoAnswer;
 
-pub fn unpacked(span: &[u8], plan: &[u8], work: &mut [u8]) {
+pub fn unpacked(rt: &impl Print, span: &[u8], plan: &[u8], work: &mut [u8]) {
     match frame::unpack(span, work) {
         Unpacked::Frame {
             data_type,
@@ -19,100 +19,103 @@ pub fn unpacked(span: &[u8], plan: &[u8], work: &mut [u8]) {
             len,
         } => {
             let kind = data_type.to_wire();
-            say(b"a frame of type ");
-            byte(kind);
-            say(b": ");
-            reading(kind, part(work, 6, len), plan);
+            say(rt, b"a frame of type ");
+            byte(rt, kind);
+            say(rt, b": ");
+            reading(rt, kind, part(work, 6, len), plan);
         }
-        Unpacked::Refused(r) => refusal(r),
+        Unpacked::Refused(r) => refusal(rt, r),
     }
 }
 
-fn reading(kind: u8, payload: &[u8], plan: &[u8]) {
+fn reading(rt: &impl Print, kind: u8, payload: &[u8], plan: &[u8]) {
     match kind {
-        0x0C => by_table(kind, Table::One, payload, plan),
-        0x0E => by_table(kind, Table::Two, payload, plan),
-        _ => say(b"withheld, the plan has no table for this type"),
+        0x0C => by_table(rt, kind, Table::One, payload, plan),
+        0x0E => by_table(rt, kind, Table::Two, payload, plan),
+        _ => say(rt, b"withheld, the plan has no table for this type"),
     }
 }
 
-fn by_table(kind: u8, table: Table, payload: &[u8], plan: &[u8]) {
+fn by_table(rt: &impl Print, kind: u8, table: Table, payload: &[u8], plan: &[u8]) {
     if payload.len() == 0 {
-        say(b"withheld, the payload is empty");
+        say(rt, b"withheld, the payload is empty");
         return;
     }
     let command = payload[0];
     match plan::entry(plan, kind, command) {
-        1 => battery(payload),
-        2 => noise(payload),
-        3 => capability(payload),
-        4 => equalizer(payload),
-        5 => paired(payload),
-        6 => functions(table, payload),
-        7 => setting(payload),
-        8 => setting_texts(payload),
-        _ => no_entry(command),
+        1 => battery(rt, payload),
+        2 => noise(rt, payload),
+        3 => capability(rt, payload),
+        4 => equalizer(rt, payload),
+        5 => paired(rt, payload),
+        6 => functions(rt, table, payload),
+        7 => setting(rt, payload),
+        8 => setting_texts(rt, payload),
+        _ => no_entry(rt, command),
     }
 }
 
-fn no_entry(command: u8) {
-    say(b"withheld, the table of this type has no entry for command ");
-    byte(command);
+fn no_entry(rt: &impl Print, command: u8) {
+    say(
+        rt,
+        b"withheld, the table of this type has no entry for command ",
+    );
+    byte(rt, command);
 }
 
-fn withheld(decoder: &[u8], r: Refusal, payload: &[u8]) {
-    say(b"withheld, ");
-    refused(r);
-    say(b" by the ");
-    say(decoder);
-    say(b" decoder: ");
-    cause(r, payload);
+fn withheld(rt: &impl Print, decoder: &[u8], r: Refusal, payload: &[u8]) {
+    say(rt, b"withheld, ");
+    refused(rt, r);
+    say(rt, b" by the ");
+    say(rt, decoder);
+    say(rt, b" decoder: ");
+    cause(rt, r, payload);
 }
 
-fn battery(payload: &[u8]) {
+fn battery(rt: &impl Print, payload: &[u8]) {
     match payload::decode_battery(payload) {
-        BatteryAnswer::Report(r) => battery_report(r),
-        BatteryAnswer::Refused(r) => withheld(b"battery", r, payload),
+        BatteryAnswer::Report(r) => battery_report(rt, r),
+        BatteryAnswer::Refused(r) => withheld(rt, b"battery", r, payload),
     }
 }
 
-fn noise(payload: &[u8]) {
+fn noise(rt: &impl Print, payload: &[u8]) {
     match payload::decode_noise(payload) {
-        NoiseAnswer::Report(r) => noise_report(r),
-        NoiseAnswer::Refused(r) => withheld(b"noise control", r, payload),
+        NoiseAnswer::Report(r) => noise_report(rt, r),
+        NoiseAnswer::Refused(r) => withheld(rt, b"noise control", r, payload),
     }
 }
 
-fn capability(payload: &[u8]) {
+fn capability(rt: &impl Print, payload: &[u8]) {
     let c = capability::decode_noise_capability(payload);
     let answer = c.answer;
     let report = c.report;
     match answer {
-        CapabilityAnswer::Kind(kind) => capability_report(kind, report),
-        CapabilityAnswer::Refused(r) => withheld(b"capability", r, payload),
+        CapabilityAnswer::Kind(kind) => capability_report(rt, kind, report),
+        CapabilityAnswer::Refused(r) => withheld(rt, b"capability", r, payload),
     }
 }
 
-fn equalizer(payload: &[u8]) {
+fn equalizer(rt: &impl Print, payload: &[u8]) {
     match lists::decode_equalizer(payload) {
         EqAnswer::Report { preset, count: _ } => {
-            equalizer_report(preset, lists::equalizer_steps(payload))
+            equalizer_report(rt, preset, lists::equalizer_steps(payload))
         }
-        EqAnswer::Refused(r) => withheld(b"equalizer", r, payload),
+        EqAnswer::Refused(r) => withheld(rt, b"equalizer", r, payload),
     }
 }
 
-fn paired(payload: &[u8]) {
+fn paired(rt: &impl Print, payload: &[u8]) {
     match paired::decode_paired_devices(payload) {
-        PairedDevices::Count(count) => devices_report(count as usize, payload),
+        PairedDevices::Count(count) => devices_report(rt, count as usize, payload),
         PairedDevices::Refused(r) => {
-            withheld(b"paired device", r, payload);
-            say(b"; its length is not told");
+            withheld(rt, b"paired device", r, payload);
+            say(rt, b"; its length is not told");
         }
     }
 }
 
-fn functions(table: Table, payload: &[u8]) {
+fn functions(rt: &impl Print, table: Table, payload: &[u8]) {
     let none = SupportFunction {
         code: 0,
         priority: 0,
@@ -121,21 +124,21 @@ fn functions(table: Table, payload: &[u8]) {
     let answer = d.answer;
     let records = d.records;
     match answer {
-        SupportAnswer::Functions { table: of, count } => functions_report(of, count, records),
-        SupportAnswer::Refused(r) => withheld(b"support function", r, payload),
+        SupportAnswer::Functions { table: of, count } => functions_report(rt, of, count, records),
+        SupportAnswer::Refused(r) => withheld(rt, b"support function", r, payload),
     }
 }
 
-fn setting(payload: &[u8]) {
+fn setting(rt: &impl Print, payload: &[u8]) {
     match payload::decode_general_setting_param(payload) {
-        SettingAnswer::Param(p) => setting_param(p),
-        SettingAnswer::Refused(r) => withheld(b"setting", r, payload),
+        SettingAnswer::Param(p) => setting_param(rt, p),
+        SettingAnswer::Refused(r) => withheld(rt, b"setting", r, payload),
     }
 }
 
-fn setting_texts(payload: &[u8]) {
+fn setting_texts(rt: &impl Print, payload: &[u8]) {
     match setting_info::decode_general_setting_info(payload) {
-        SettingInfoAnswer::Info(s) => general_setting(s, payload),
-        SettingInfoAnswer::Refused(r) => withheld(b"setting text", r, payload),
+        SettingInfoAnswer::Info(s) => general_setting(rt, s, payload),
+        SettingInfoAnswer::Refused(r) => withheld(rt, b"setting text", r, payload),
     }
 }

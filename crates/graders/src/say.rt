@@ -1,10 +1,10 @@
 // What is printed: words, numbers, and bytes in hexadecimal, sixteen to a row.
-pub fn say(words: &[u8]) {
-    io::write_all(1, words);
+pub fn say(rt: &impl Print, words: &[u8]) {
+    replay::write_all(rt, words);
 }
 
-pub fn number(n: usize) {
-    io::print_decimal(1, n as u64);
+pub fn number(rt: &impl Print, n: usize) {
+    let _ = rt.print(n);
 }
 
 fn digit(n: u8) -> u8 {
@@ -12,70 +12,70 @@ fn digit(n: u8) -> u8 {
     if d < 10 { 48 + d } else { 55 + d }
 }
 
-pub fn byte(b: u8) {
+pub fn byte(rt: &impl Print, b: u8) {
     let pair = [digit(b / 16), digit(b)];
-    say(&pair);
+    say(rt, &pair);
 }
 
 // The next row below a label.
-pub fn row() {
-    say(b"\n       ");
+pub fn row(rt: &impl Print) {
+    say(rt, b"\n       ");
 }
 
 // What stands before an item of a list: a blank, or a new row.
-pub fn gap(i: usize) {
+pub fn gap(rt: &impl Print, i: usize) {
     if i == 0 {
         return;
     }
     if i % 16 == 0 {
-        row();
+        row(rt);
     } else {
-        say(b" ");
+        say(rt, b" ");
     }
 }
 
-pub fn bytes(s: &[u8]) {
+pub fn bytes(rt: &impl Print, s: &[u8]) {
     let mut i = 0;
     while i < s.len() {
-        gap(i);
-        byte(s[i]);
+        gap(rt, i);
+        byte(rt, s[i]);
         i += 1;
     }
 }
 
-pub fn yes_or_no(yes: bool) {
+pub fn yes_or_no(rt: &impl Print, yes: bool) {
     if yes {
-        say(b"yes");
+        say(rt, b"yes");
     } else {
-        say(b"no");
+        say(rt, b"no");
     }
 }
 
 // So many of a thing.
-pub fn counted(n: usize, thing: &[u8]) {
+pub fn counted(rt: &impl Print, n: usize, thing: &[u8]) {
     if n == 0 {
-        say(b"no");
+        say(rt, b"no");
     } else {
-        number(n);
+        number(rt, n);
     }
-    say(b" ");
-    say(thing);
+    say(rt, b" ");
+    say(rt, thing);
     if n != 1 {
-        say(b"s");
+        say(rt, b"s");
     }
 }
 
 // Places are counted from 1 on.
-pub fn place(i: usize) {
-    number(std::num::wrapping_add_usize(i, 1));
+pub fn place(rt: &impl Print, i: usize) {
+    number(rt, std::num::wrapping_add_usize(i, 1));
 }
 
 // So many bytes behind so many others.
-pub fn from_to(before: usize, len: usize) {
-    say(b"bytes ");
-    place(before);
-    say(b" to ");
-    number(std::num::wrapping_add_usize(before, len));
+pub fn from_to(rt: &impl Print, before: usize, len: usize) {
+    say(rt, b"bytes ");
+    place(rt, before);
+    say(rt, b" to ");
+    number(rt, std::num::wrapping_add_usize(before, len));
 }
 
 // So many bytes from a place on, or none where there are fewer.

@@ -5,33 +5,34 @@ use payload::GeneralSettingParam;
 use setting_info::{GeneralSetting, SettingText};
 use text::Characters;
 
-pub fn setting_param(p: GeneralSettingParam) {
-    of_slot(p.slot);
+pub fn setting_param(rt: &impl Print, p: GeneralSettingParam) {
+    of_slot(rt, p.slot);
     if p.enabled {
-        say(b" on");
+        say(rt, b" on");
     } else {
-        say(b" off");
+        say(rt, b" off");
     }
 }
 
-fn of_slot(slot: u8) {
-    say(b"setting of slot ");
-    byte(slot);
+fn of_slot(rt: &impl Print, slot: u8) {
+    say(rt, b"setting of slot ");
+    byte(rt, slot);
 }
 
-pub fn general_setting(s: GeneralSetting, payload: &[u8]) {
+pub fn general_setting(rt: &impl Print, s: GeneralSetting, payload: &[u8]) {
     let called = s.name;
     let summary = s.summary;
-    of_slot(s.slot);
-    text(b"name ", called, payload);
-    text(b"summary ", summary, payload);
+    of_slot(rt, s.slot);
+    text(rt, b"name ", called, payload);
+    text(rt, b"summary ", summary, payload);
 }
 
 // The decoder takes none that is no text.
-fn text(label: &[u8], t: SettingText, payload: &[u8]) {
-    row();
-    say(label);
+fn text(rt: &impl Print, label: &[u8], t: SettingText, payload: &[u8]) {
+    row(rt);
+    say(rt, label);
     name(
+        rt,
         part(payload, t.offset, t.len),
         Characters::Number(t.characters),
     );

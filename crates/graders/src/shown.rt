@@ -62,48 +62,48 @@ fn is_printable(s: &[u8]) -> bool {
 }
 
 // Between quotes where the bytes may be shown as text, else in digits.
-fn quoted(s: &[u8], fit: bool) {
+fn quoted(rt: &impl Print, s: &[u8], fit: bool) {
     if fit {
-        say(b"\"");
-        say(s);
-        say(b"\"");
+        say(rt, b"\"");
+        say(rt, s);
+        say(rt, b"\"");
     } else {
-        bytes(s);
+        bytes(rt, s);
     }
 }
 
-pub fn address(s: &[u8]) {
-    quoted(s, is_printable(s));
+pub fn address(rt: &impl Print, s: &[u8]) {
+    quoted(rt, s, is_printable(s));
 }
 
 // A name or a summary, and how many characters it is.
-pub fn name(s: &[u8], c: Characters) {
+pub fn name(rt: &impl Print, s: &[u8], c: Characters) {
     if s.len() == 0 {
-        say(b"empty");
+        say(rt, b"empty");
         return;
     }
     match c {
         Characters::Number(n) => {
-            quoted(s, !has_control(s));
-            say(b" of ");
-            counted(n, b"character");
+            quoted(rt, s, !has_control(s));
+            say(rt, b" of ");
+            counted(rt, n, b"character");
         }
         Characters::NoText => {
-            bytes(s);
-            say(b", no text");
+            bytes(rt, s);
+            say(rt, b", no text");
         }
     }
 }
 
 // A byte of a heading, in digits where it is not to be obeyed.
-fn glyph(b: u8, plain: bool) {
+fn glyph(rt: &impl Print, b: u8, plain: bool) {
     if plain {
         let one = [b];
-        say(&one);
+        say(rt, &one);
     } else {
-        say(b"<");
-        byte(b);
-        say(b">");
+        say(rt, b"<");
+        byte(rt, b);
+        say(rt, b">");
     }
 }
 
@@ -132,26 +132,26 @@ fn stands(s: &[u8]) -> bool {
 }
 
 // A line as it stands, save that bytes that are no text and control characters are in digits.
-pub fn heading(s: &[u8]) {
+pub fn heading(rt: &impl Print, s: &[u8]) {
     let text = stands(s);
     let mut left = 0;
     let mut i = 0;
     while i < s.len() {
         let n = hidden(s, i, text, left);
-        glyph(s[i], n == 0);
+        glyph(rt, s[i], n == 0);
         left = one_less(n);
         i += 1;
     }
-    say(b"\n");
+    say(rt, b"\n");
 }
 
 // A byte that is no hexadecimal digit.
-pub fn stranger(b: u8) {
+pub fn stranger(rt: &impl Print, b: u8) {
     if within(b, 0x20, 0x7E) {
         let quote = [b'\'', b, b'\''];
-        say(&quote);
+        say(rt, &quote);
     } else {
-        say(b"the byte ");
-        byte(b);
+        say(rt, b"the byte ");
+        byte(rt, b);
     }
 }

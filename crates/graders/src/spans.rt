@@ -29,22 +29,30 @@ fn going(scanner: Scanner) -> Run {
     }
 }
 
-pub fn each_span(given: &[u8], plan: &[u8], store: &mut [u8], work: &mut [u8], out: &mut [u8]) {
+pub fn each_span(
+    rt: &impl Print,
+    given: &[u8],
+    plan: &[u8],
+    store: &mut [u8],
+    work: &mut [u8],
+    out: &mut [u8],
+) {
     let fresh = scanner::open(LIMIT, store).scanner;
     let pushed = scanner::push(fresh, store, given);
     let answer = pushed.answer;
     let scanner = pushed.scanner;
     match answer {
-        PushAnswer::Stored => in_turn(scanner, given.len(), plan, store, work, out),
+        PushAnswer::Stored => in_turn(rt, scanner, given.len(), plan, store, work, out),
         PushAnswer::Refused(r) => {
-            refusal(r);
-            say(b"\n");
+            refusal(rt, r);
+            say(rt, b"\n");
         }
     }
 }
 
 // A turn takes a span, which has bytes, so there are no more turns than bytes, and one that finds none.
 fn in_turn(
+    rt: &impl Print,
     scanner: Scanner,
     total: usize,
     plan: &[u8],
@@ -55,13 +63,14 @@ fn in_turn(
     let mut run = going(scanner);
     let mut turns = total;
     while turns > 0 && run.more {
-        run = next_span(run.scanner, total, plan, store, work, out);
+        run = next_span(rt, run.scanner, total, plan, store, work, out);
         turns -= 1;
     }
 }
 
 // What is held are the last of all the bytes given.
 fn next_span(
+    rt: &impl Print,
     scanner: Scanner,
     total: usize,
     plan: &[u8],
@@ -73,44 +82,45 @@ fn next_span(
     let before = std::num::wrapping_sub_usize(total, count);
     match scanner::seek(part(store, 0, count)) {
         Sight::Both { at, len } => {
-            say(b"right  ");
-            from_to(std::num::wrapping_add_usize(before, at), len);
-            say(b", ");
-            unpacked(part(store, at, len), plan, work);
-            say(b"\n");
-            logged(scanner, plan, store, work, out)
+            say(rt, b"right  ");
+            from_to(rt, std::num::wrapping_add_usize(before, at), len);
+            say(rt, b", ");
+            unpacked(rt, part(store, at, len), plan, work);
+            say(rt, b"\n");
+            logged(rt, scanner, plan, store, work, out)
         }
         Sight::NoStart => {
             if count == 0 {
                 return ended(scanner);
             }
-            left(before, count);
-            say(b"no byte is 3E\n");
-            last(scanner, before, plan, store, work, out)
+            left(rt, before, count);
+            say(rt, b"no byte is 3E\n");
+            last(rt, scanner, before, plan, store, work, out)
         }
         Sight::NoEnd(at) => {
-            left(before, count);
-            say(b"byte ");
-            place(std::num::wrapping_add_usize(before, at));
-            say(b" is 3E, and no 3C stands behind it\n");
-            last(scanner, before, plan, store, work, out)
+            left(rt, before, count);
+            say(rt, b"byte ");
+            place(rt, std::num::wrapping_add_usize(before, at));
+            say(rt, b" is 3E, and no 3C stands behind it\n");
+            last(rt, scanner, before, plan, store, work, out)
         }
     }
 }
 
 // Bytes in which no span is.
-fn left(before: usize, count: usize) {
+fn left(rt: &impl Print, before: usize, count: usize) {
     if before == 0 {
-        say(b"right  no span: ");
+        say(rt, b"right  no span: ");
     } else {
-        say(b"rest   ");
-        from_to(before, count);
-        say(b", no span: ");
+        say(rt, b"rest   ");
+        from_to(rt, before, count);
+        say(rt, b", no span: ");
     }
 }
 
 // Where the bytes have had no span, that there is no line.
 fn last(
+    rt: &impl Print,
     scanner: Scanner,
     before: usize,
     plan: &[u8],
@@ -119,29 +129,36 @@ fn last(
     out: &mut [u8],
 ) -> Run {
     if before == 0 {
-        return logged(scanner, plan, store, work, out);
+        return logged(rt, scanner, plan, store, work, out);
     }
     ended(scanner)
 }
 
 // The log's line, which ends with a newline.
-fn logged(scanner: Scanner, plan: &[u8], store: &mut [u8], work: &mut [u8], out: &mut [u8]) -> Run {
-    say(b"log    ");
+fn logged(
+    rt: &impl Print,
+    scanner: Scanner,
+    plan: &[u8],
+    store: &mut [u8],
+    work: &mut [u8],
+    out: &mut [u8],
+) -> Run {
+    say(rt, b"log    ");
     let lined = masked_log::line(scanner, store, plan, work, out);
     let answer = lined.answer;
     let next = lined.scanner;
     match answer {
         LineAnswer::Line(n) => {
-            say(part(out, 0, n));
+            say(rt, part(out, 0, n));
             going(next)
         }
         LineAnswer::Nothing => {
-            say(b"no line\n");
+            say(rt, b"no line\n");
             ended(next)
         }
         LineAnswer::Refused(r) => {
-            refusal(r);
-            say(b"\n");
+            refusal(rt, r);
+            say(rt, b"\n");
             ended(next)
         }
     }

@@ -1,4 +1,6 @@
 // Printing an answer into a text that is written out when it has grown long.
+ghost use Rattle.std.specs.Prelude.{◌≤◌};
+
 use crate::cases::first;
 use crate::rule::mix_first;
 use frame::Refusal;
@@ -23,11 +25,28 @@ pub fn word(text: &mut [u8], at: usize, w: &[u8]) -> usize {
     put(text, k, b' ')
 }
 
+// Puts a number's decimal digits at the end of twenty bytes, which hold those of any; the answer is where they begin.
+fn decimal(n: u64, digits: &mut [u8; 20]) -> usize
+    ensures { result ≤ 20 }
+{
+    let mut at = 20;
+    let mut rest = n;
+    while at > 0 {
+        at -= 1;
+        digits[at] = digit((rest % 10) as u8);
+        rest /= 10;
+        if rest == 0 {
+            return at;
+        }
+    }
+    at
+}
+
 // A number in decimal.
 pub fn number(text: &mut [u8], at: usize, n: u64) -> usize {
     let mut digits = [0u8; 20];
-    let k = io::decimal(n, &mut digits);
-    word(text, at, &digits[..k])
+    let begin = decimal(n, &mut digits);
+    word(text, at, &digits[begin..])
 }
 
 pub fn flag(text: &mut [u8], at: usize, yes: bool) -> usize {
@@ -103,16 +122,21 @@ fn finish(text: &mut [u8], at: usize) -> usize {
 }
 
 // Ends an answer's line; a text that has grown long is written out. The next place.
-pub fn end_line(text: &mut [u8], at: usize) -> usize {
+pub fn end_line(rt: &impl Print, text: &mut [u8], at: usize) -> usize {
     let end = finish(text, at);
     if end < 32768 {
         return end;
     }
-    flush(text, end);
+    flush(rt, text, end);
     0
 }
 
 // Writes out the first bytes of the text.
-pub fn flush(text: &[u8], n: usize) {
-    io::write_all(1, first(text, n));
+pub fn flush(rt: &impl Print, text: &[u8], n: usize) {
+    write_all(rt, first(text, n));
+}
+
+// Writes out bytes. Where that fails, the rest of them is dropped.
+pub fn write_all(rt: &impl Print, bytes: &[u8]) {
+    let _ = rt.write_all(bytes);
 }

@@ -2,12 +2,28 @@
 ghost use Rattle.std.specs.Prelude.{◌≡◌, ◌<◌, ◌≤◌, length};
 
 use crate::answer::put;
+use std::io::Read;
 
 // Room for all the cases.
 pub fn room() -> [u8; 1048576]
     ensures { 1048576 ≡ length result }
 {
     [0; 1048576]
+}
+
+// Reads until the buffer is full, the input ends or a read fails; the answer is how many bytes were put at its front.
+pub fn read_full<R: Read>(from: &mut R, buf: &mut [u8]) -> usize
+    ensures { result ≤ length buf.new }
+{
+    let mut done = 0;
+    while done < buf.len() {
+        let n = from.read(&mut buf[done..]).unwrap_or(0);
+        if n == 0 {
+            break;
+        }
+        done += n;
+    }
+    done
 }
 
 fn least(x: usize, y: usize) -> usize

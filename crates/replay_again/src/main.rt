@@ -9,19 +9,19 @@ use frames::frames_of;
 use logs::{log_of, say};
 use replay::first;
 
-fn main() {
+fn main(rt: HostRuntime) {
     let mut input = replay::room();
     let mut log = [0u8; 262144];
     let mut frames = [0u8; 131072];
-    let n = io::read_full(0, &mut input);
-    twice(&input[..n], &mut log, &mut frames);
+    let n = replay::read_full(&mut rt.stdin(), &mut input);
+    twice(&rt, &input[..n], &mut log, &mut frames);
 }
 
-fn twice(input: &[u8], log: &mut [u8], frames: &mut [u8]) {
-    let n = log_of(input, log);
-    say(first(log, n));
-    say(b"\n");
-    let m = frames_of(first(log, n), frames);
-    let k = log_of(first(frames, m), log);
-    say(first(log, k));
+fn twice(rt: &impl Print, input: &[u8], log: &mut [u8], frames: &mut [u8]) {
+    let n = log_of(rt, input, log);
+    say(rt, first(log, n));
+    say(rt, b"\n");
+    let m = frames_of(rt, first(log, n), frames);
+    let k = log_of(rt, first(frames, m), log);
+    say(rt, first(log, k));
 }

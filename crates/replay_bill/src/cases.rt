@@ -3,21 +3,21 @@ use crate::calls::{bill_counts, bill_lines, one_line, read_digits};
 use billing::LineCounts;
 use replay::{end_line, first, flush, hex_field, letter, next_line, number_field, word};
 
-pub fn run(input: &[u8]) {
+pub fn run(rt: &impl Print, input: &[u8]) {
     let mut bytes = [0u8; 524288];
-    let mut text = io::large_buffer();
-    each(input, &mut bytes, &mut text);
+    let mut text = [0u8; 65536];
+    each(rt, input, &mut bytes, &mut text);
 }
 
-fn each(input: &[u8], bytes: &mut [u8], text: &mut [u8]) {
+fn each(rt: &impl Print, input: &[u8], bytes: &mut [u8], text: &mut [u8]) {
     let mut at = 0;
     let mut k = 0;
     while at < input.len() {
         let end = answer(input, at, bytes, text, k);
-        k = end_line(text, end);
+        k = end_line(rt, text, end);
         at = next_line(input, at);
     }
-    flush(text, k);
+    flush(rt, text, k);
 }
 
 fn answer(input: &[u8], at: usize, bytes: &mut [u8], text: &mut [u8], k: usize) -> usize {

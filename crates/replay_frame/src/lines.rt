@@ -6,23 +6,30 @@ use replay::{
     number_field, word,
 };
 
-pub fn run(input: &[u8]) {
+pub fn run(rt: &impl Print, input: &[u8]) {
     let mut src = [0u8; 66000];
     let mut out = [0u8; 132100];
     let mut work = [0u8; 132100];
-    let mut text = io::large_buffer();
-    each(input, &mut src, &mut out, &mut work, &mut text);
+    let mut text = [0u8; 65536];
+    each(rt, input, &mut src, &mut out, &mut work, &mut text);
 }
 
-fn each(input: &[u8], src: &mut [u8], out: &mut [u8], work: &mut [u8], text: &mut [u8]) {
+fn each(
+    rt: &impl Print,
+    input: &[u8],
+    src: &mut [u8],
+    out: &mut [u8],
+    work: &mut [u8],
+    text: &mut [u8],
+) {
     let mut at = 0;
     let mut k = 0;
     while at < input.len() {
         let next = answer(input, at, src, out, work, text, k);
-        k = end_line(text, next);
+        k = end_line(rt, text, next);
         at = next_line(input, at);
     }
-    flush(text, k);
+    flush(rt, text, k);
 }
 
 fn answer(

@@ -5,22 +5,22 @@ use replay::{
     end_line, field, first, first_mut, flush, hex_field, letter, next_line, number_field, put, word,
 };
 
-pub fn run(input: &[u8]) {
+pub fn run(rt: &impl Print, input: &[u8]) {
     let mut line = [0u8; 147456];
     let mut out = [0u8; 73728];
-    let mut text = io::large_buffer();
-    each(input, &mut line, &mut out, &mut text);
+    let mut text = [0u8; 65536];
+    each(rt, input, &mut line, &mut out, &mut text);
 }
 
-fn each(input: &[u8], line: &mut [u8], out: &mut [u8], text: &mut [u8]) {
+fn each(rt: &impl Print, input: &[u8], line: &mut [u8], out: &mut [u8], text: &mut [u8]) {
     let mut at = 0;
     let mut k = 0;
     while at < input.len() {
         let end = answer(input, at, line, out, text, k);
-        k = end_line(text, end);
+        k = end_line(rt, text, end);
         at = next_line(input, at);
     }
-    flush(text, k);
+    flush(rt, text, k);
 }
 
 // Puts a byte at a place of the line, or behind a gap of one byte there.

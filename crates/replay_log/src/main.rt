@@ -4,8 +4,8 @@
 
 mod session;
 
-fn main() {
+fn main(rt: HostRuntime) {
     let mut input = replay::room();
-    let n = io::read_full(0, &mut input);
-    session::run(&input[..n]);
+    let n = replay::read_full(&mut rt.stdin(), &mut input);
+    session::run(&rt, &input[..n]);
 }

@@ -9,23 +9,30 @@ use replay::{
     number_field, put, word,
 };
 
-pub fn run(input: &[u8]) {
+pub fn run(rt: &impl Print, input: &[u8]) {
     let mut kept = [0u8; 8192];
     let mut records = [0u8; 1024];
     let mut scratch = [0u8; 8192];
-    let mut text = io::large_buffer();
-    each(input, &mut kept, &mut records, &mut scratch, &mut text);
+    let mut text = [0u8; 65536];
+    each(rt, input, &mut kept, &mut records, &mut scratch, &mut text);
 }
 
-fn each(input: &[u8], kept: &mut [u8], records: &mut [u8], scratch: &mut [u8], text: &mut [u8]) {
+fn each(
+    rt: &impl Print,
+    input: &[u8],
+    kept: &mut [u8],
+    records: &mut [u8],
+    scratch: &mut [u8],
+    text: &mut [u8],
+) {
     let mut at = 0;
     let mut k = 0;
     while at < input.len() {
         let next = answer(input, at, kept, records, scratch, text, k);
-        k = end_line(text, next);
+        k = end_line(rt, text, next);
         at = next_line(input, at);
     }
-    flush(text, k);
+    flush(rt, text, k);
 }
 
 fn answer(

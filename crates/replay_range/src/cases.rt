@@ -5,20 +5,20 @@ use crate::sums::all_pairs;
 use range::{AmbientRange, Narrowed};
 use replay::{byte_field, end_line, flush, letter, next_line, number, word};
 
-pub fn run(input: &[u8]) {
-    let mut text = io::large_buffer();
-    each(input, &mut text);
+pub fn run(rt: &impl Print, input: &[u8]) {
+    let mut text = [0u8; 65536];
+    each(rt, input, &mut text);
 }
 
-fn each(input: &[u8], text: &mut [u8]) {
+fn each(rt: &impl Print, input: &[u8], text: &mut [u8]) {
     let mut at = 0;
     let mut k = 0;
     while at < input.len() {
         let end = answer(input, at, text, k);
-        k = end_line(text, end);
+        k = end_line(rt, text, end);
         at = next_line(input, at);
     }
-    flush(text, k);
+    flush(rt, text, k);
 }
 
 fn answer(input: &[u8], at: usize, text: &mut [u8], k: usize) -> usize {

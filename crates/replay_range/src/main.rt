@@ -18,8 +18,8 @@ mod cases;
 mod narrowing;
 mod sums;
 
-fn main() {
+fn main(rt: HostRuntime) {
     let mut input = replay::room();
-    let n = io::read_full(0, &mut input);
-    cases::run(&input[..n]);
+    let n = replay::read_full(&mut rt.stdin(), &mut input);
+    cases::run(&rt, &input[..n]);
 }

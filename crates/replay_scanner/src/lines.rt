@@ -9,16 +9,19 @@ use replay::{
 use scanner::Scanner;
 
 // What is lent to calls: `piece` is the bytes of a push, or the output of lines or acks.
-pub fn run(input: &[u8]) {
+pub fn run(rt: &impl Print, input: &[u8]) {
     let mut store = [0u8; 140000];
     let mut piece = [0u8; 140000];
     let mut work = [0u8; 140000];
-    let mut text = io::large_buffer();
+    let mut text = [0u8; 65536];
     let plan = plan::house_plan();
-    each(input, &plan, &mut store, &mut piece, &mut work, &mut text);
+    each(
+        rt, input, &plan, &mut store, &mut piece, &mut work, &mut text,
+    );
 }
 
 fn each(
+    rt: &impl Print,
     input: &[u8],
     plan: &[u8],
     store: &mut [u8],
@@ -34,10 +37,10 @@ fn each(
     };
     while at < input.len() {
         let next = line(input, at, state, plan, store, piece, work, text);
-        state = with_place(next, end_line(text, next.k));
+        state = with_place(next, end_line(rt, text, next.k));
         at = next_line(input, at);
     }
-    flush(text, state.k);
+    flush(rt, text, state.k);
 }
 
 fn line(

@@ -18,8 +18,8 @@
 mod calls;
 mod lines;
 
-fn main() {
+fn main(rt: HostRuntime) {
     let mut input = replay::room();
-    let n = io::read_full(0, &mut input);
-    lines::run(&input[..n]);
+    let n = replay::read_full(&mut rt.stdin(), &mut input);
+    lines::run(&rt, &input[..n]);
 }

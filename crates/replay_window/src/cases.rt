@@ -6,22 +6,22 @@ use window::{NoiseWindow, open};
 // Where the line begins that named a payload, by its letter. No line begins here, and its payload is empty.
 const NOWHERE: usize = 18446744073709551615;
 
-pub fn run(input: &[u8]) {
+pub fn run(rt: &impl Print, input: &[u8]) {
     let mut named = [NOWHERE; 26];
-    let mut bytes = io::large_buffer();
+    let mut bytes = [0u8; 65536];
     let mut text = replay::room();
-    each(input, &mut named, &mut bytes, &mut text);
+    each(rt, input, &mut named, &mut bytes, &mut text);
 }
 
-fn each(input: &[u8], named: &mut [usize], bytes: &mut [u8], text: &mut [u8]) {
+fn each(rt: &impl Print, input: &[u8], named: &mut [usize], bytes: &mut [u8], text: &mut [u8]) {
     let mut at = 0;
     let mut k = 0;
     while at < input.len() {
         let end = answer(input, at, named, bytes, text, k);
-        k = end_line(text, end);
+        k = end_line(rt, text, end);
         at = next_line(input, at);
     }
-    flush(text, k);
+    flush(rt, text, k);
 }
 
 fn answer(
