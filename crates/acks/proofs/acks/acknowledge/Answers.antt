@@ -1,48 +1,27 @@
-use Rattle.std.proofs.Common.{◌≡◌, ℕ, ◌+◌, ◌≤◌, false, length, take, replicate, sym, refl, ap, ◌∙◌, arith, length-take-le, leb-false, leb-true}
-use borrow.Author.Tests.{not-true, not-false}
+use Rattle.std.proofs.Common.{◌≡◌, ℕ, ◌+◌, ◌-◌, ◌≤◌, false, List, length, take, replicate, sym, refl, ap, ◌∙◌, arith, length-take-le, leb-false, leb-true}
 use Rattle.base.specs.Outcome.{accepted}
 use Rattle.base.specs.Refusal.{refusal_told}
+use Rattle.cutting.specs.declared.deciding.Moved.{Moved}
 use Rattle.held.specs.Going.{let_go}
-use Rattle.scanner.specs.Scanner.{held_of, counting, counted_told, checked_told}
+use Rattle.scanner.specs.Scanner.{held_of, counting, counted_of, counted_told, checked_told}
+use Rattle.scanner.specs.declared.scanner.Scanner.{Scanner}
 use Rattle.scanner.specs.declared.scanner.Counted.{Counted}
 use Rattle.scanner.specs.declared.scanner.Checked.{Checked}
-use Rattle.scanner.proofs.LawsScanner.{admitted, passed}
-use Rattle.draining.specs.Draining.{drain_call}
+use Rattle.scanner.proofs.LawsScanner.{fine, passed}
+use Rattle.draining.specs.Draining.{drained_of, drain_call}
 use Rattle.draining.proofs.LawsDraining.{goes_held, drain_counted}
-use Rattle.acks.specs.Acks.{acks_in}
 use Rattle.acks.proofs.LawsStation.{station_refused, station_short, station_long, station_far, station_near}
 use Rattle.acks.proofs.acks.acknowledge.Goals as goal
-use Rattle.acks.proofs.acks.acknowledge.Lts as lts
 
 -- 1 to 3 do not apply, and these bytes are held
+module _ (s : Scanner) (store : List ℕ) (e : held_of s store ≡ accepted (take s.count store)) (m : Moved) (is : m ≡ drained_of s.limit (take s.count store)) where
+  goes : m.dropped + m.handed ≤ s.count
+  goes = goes_held s store (take s.count store) e m is
 
-holds : (c : lts.In_default) → let a = c.args in held_of a.scanner a.store.now ≡ accepted (take a.scanner.count a.store.now)
-holds c = let a = c.args in passed a.scanner a.store.now _ _ c.check.ensures c.in_default.is
-
-fits : (c : lts.In_default) → let a = c.args in a.scanner.count ≤ length a.store.now
-fits c = let a = c.args in (admitted a.scanner a.store.now (take a.scanner.count a.store.now) (holds c)).fits
-
-as_long : (c : lts.In_default) → let a = c.args in a.scanner.count ≡ length (take a.scanner.count a.store.now)
-as_long c = sym (length-take-le _ _ (fits c))
-
--- 18 does not apply either
-
-has_room : (c : lts.Else-not-acks_fit) → let a = c.args in length (acks_in (take a.scanner.count a.store.now)) ≤ length a.out.now
-has_room c = leb-true _ _ (sym c.acks_fit.ensures ∙ not-false c.acks_fit.result c.if-not-acks_fit.false)
-
-goes : (c : lts.After-decide_all-moved) → let a = c.args in c.decide_all-moved.result.dropped + c.decide_all-moved.result.handed ≤ a.scanner.count
-goes c = let a = c.args in goes_held a.scanner a.store.now (take a.scanner.count a.store.now) (holds c) c.decide_all-moved.result c.decide_all-moved.ensures
-
--- what the takes come to together, by the state's answer
-
-comes : (c : lts.After-advance) → (o : Counted) → c.advance.result ≡ o
-    → let m = c.decide_all-moved.result in
-    let a = c.args in
-    drain_call a.scanner a.store.now ≡ counting (counted_told o) false a.scanner a.store.now (let_go (take a.scanner.count a.store.now) (c.decide_all-moved.result.dropped + c.decide_all-moved.result.handed) a.store.now)
-comes c o e =
-    let k = c in
-    let a = c.args in
-    drain_counted a.scanner a.store.now (take a.scanner.count a.store.now) (holds c) k.decide_all-moved.result k.decide_all-moved.ensures (counted_told o) (ap counted_told (sym e) ∙ c.advance.ensures)
+  -- what the takes come to together, by the state's answer
+  comes : (x o : Counted) → counted_told x ≡ counted_of s (s.count - (m.dropped + m.handed)) m → x ≡ o
+      → drain_call s store ≡ counting (counted_told o) false s store (let_go (take s.count store) (m.dropped + m.handed) store)
+  comes x o told same = drain_counted s store (take s.count store) e m is (counted_told o) (ap counted_told (sym same) ∙ told)
 
 pub returns-in-Refused : goal.returns-in-Refused
 returns-in-Refused c =
@@ -53,50 +32,61 @@ returns-in-Refused c =
 pub returns-then-work-store : goal.returns-then-work-store
 returns-then-work-store c =
     let a = c.args in
-    rw (station_short a.scanner a.store.now a.work.now a.out.now _ (holds c) c.if-work-store.true) (record { answer_value = refl; scanner_value = refl; store_after = refl; work_after = refl; out_after = refl })
+    rw (station_short a.scanner a.store.now a.work.now a.out.now _ (passed a.scanner a.store.now _ _ c.check.ensures c.in_default.is) c.if-work-store.true) (record { answer_value = refl; scanner_value = refl; store_after = refl; work_after = refl; out_after = refl })
 
 pub slice_bounds-acks_fit-end : goal.slice_bounds-acks_fit-end
-slice_bounds-acks_fit-end c = fits c
+slice_bounds-acks_fit-end c = let a = c.args in (fine a.scanner a.store.now _ _ c.check.ensures c.in_default.is).fits
 
 pub slice_bounds-acks_fit-end-2 : goal.slice_bounds-acks_fit-end-2
-slice_bounds-acks_fit-end-2 c = as_long c
+slice_bounds-acks_fit-end-2 c = let a = c.args in sym (length-take-le _ _ (fine a.scanner a.store.now _ _ c.check.ensures c.in_default.is).fits)
 
 pub returns-then-not-acks_fit : goal.returns-then-not-acks_fit
 returns-then-not-acks_fit c =
     let a = c.args in
-    rw (station_long a.scanner a.store.now a.work.now a.out.now _ (holds c) (omega (arith, c.if-work-store.false)) (leb-false _ _ (sym c.acks_fit.ensures ∙ not-true c.acks_fit.result c.if-not-acks_fit.true)))
+    let e = passed a.scanner a.store.now _ _ c.check.ensures c.in_default.is in
+    rw (station_long a.scanner a.store.now a.work.now a.out.now _ e (omega (arith, c.if-work-store.false)) (leb-false _ _ (sym c.acks_fit.ensures ∙ c.if-not-acks_fit.true)))
     (record { answer_value = refl; scanner_value = refl; store_after = refl; work_after = c.wipe.ensures; out_after = refl })
 
 pub slice_bounds-decide_all-end : goal.slice_bounds-decide_all-end
-slice_bounds-decide_all-end c = fits c
+slice_bounds-decide_all-end c = let a = c.args in (fine a.scanner a.store.now _ _ c.check.ensures c.in_default.is).fits
 
 pub slice_bounds-decide_all-end-2 : goal.slice_bounds-decide_all-end-2
-slice_bounds-decide_all-end-2 c = as_long c
+slice_bounds-decide_all-end-2 c = let a = c.args in sym (length-take-le _ _ (fine a.scanner a.store.now _ _ c.check.ensures c.in_default.is).fits)
 
 pub overflow_add-goes : goal.overflow_add-goes
-overflow_add-goes c = omega (arith, goes c)
+overflow_add-goes c =
+    let a = c.args in
+    omega (arith, goes a.scanner a.store.now (passed a.scanner a.store.now _ _ c.check.ensures c.in_default.is) c.decide_all-moved.result c.decide_all-moved.ensures)
 
 pub overflow_sub-count : goal.overflow_sub-count
-overflow_sub-count c = goes c
+overflow_sub-count c =
+    let a = c.args in
+    goes a.scanner a.store.now (passed a.scanner a.store.now _ _ c.check.ensures c.in_default.is) c.decide_all-moved.result c.decide_all-moved.ensures
 
 pub slice_bounds-put_acks-end : goal.slice_bounds-put_acks-end
-slice_bounds-put_acks-end c = fits c
+slice_bounds-put_acks-end c = let a = c.args in (fine a.scanner a.store.now _ _ c.check.ensures c.in_default.is).fits
 
 pub slice_bounds-put_acks-end-in-Next : goal.slice_bounds-put_acks-end-in-Next
-slice_bounds-put_acks-end-in-Next c = as_long c
+slice_bounds-put_acks-end-in-Next c = let a = c.args in sym (length-take-le _ _ (fine a.scanner a.store.now _ _ c.check.ensures c.in_default.is).fits)
 
 pub put_acks-n-requires : goal.put_acks-n-requires
-put_acks-n-requires c = (omega (arith, as_long c, fits c, c.if-work-store.false), has_room c)
+put_acks-n-requires c =
+    let a = c.args in
+    let f = (fine a.scanner a.store.now _ _ c.check.ensures c.in_default.is).fits in
+    (omega (arith, length-take-le a.scanner.count a.store.now f, f, c.if-work-store.false), leb-true _ _ (sym c.acks_fit.ensures ∙ c.if-not-acks_fit.false))
 
 pub returns-in-Refused-advance : goal.returns-in-Refused-advance
 returns-in-Refused-advance c =
     let a = c.args in
-    rw (station_far a.scanner a.store.now a.work.now a.out.now _ (holds c) (omega (arith, c.if-work-store.false)) (has_room c) a.store.now _ _ (comes c _ c.in-Refused-advance.is))
+    let e = passed a.scanner a.store.now _ _ c.check.ensures c.in_default.is in
+    let room = leb-true _ _ (sym c.acks_fit.ensures ∙ c.if-not-acks_fit.false) in
+    rw (station_far a.scanner a.store.now a.work.now a.out.now _ e (omega (arith, c.if-work-store.false)) room a.store.now _ _ (comes a.scanner a.store.now e c.decide_all-moved.result c.decide_all-moved.ensures _ _ c.advance.ensures c.in-Refused-advance.is))
     (record { answer_value = refl; scanner_value = refl; store_after = refl; work_after = refl; out_after = refl })
 
 pub returns-in-Next : goal.returns-in-Next
 returns-in-Next c =
     let a = c.args in
-    let k = c in
-    rw (station_near a.scanner a.store.now a.work.now a.out.now _ (holds c) (omega (arith, c.if-work-store.false)) (has_room c) _ _ (comes c _ c.in-Next.is) k.put_acks-n.ensures)
-    (record { answer_value = refl; scanner_value = refl; store_after = c.let_go.ensures.store_after; work_after = c.wipe-in-Next.ensures ∙ ap (λ (n : ℕ). replicate n 0) k.put_acks-n.auto.1.0; out_after = refl })
+    let e = passed a.scanner a.store.now _ _ c.check.ensures c.in_default.is in
+    let room = leb-true _ _ (sym c.acks_fit.ensures ∙ c.if-not-acks_fit.false) in
+    rw (station_near a.scanner a.store.now a.work.now a.out.now _ e (omega (arith, c.if-work-store.false)) room _ _ (comes a.scanner a.store.now e c.decide_all-moved.result c.decide_all-moved.ensures _ _ c.advance.ensures c.in-Next.is) c.put_acks-n.ensures)
+    (record { answer_value = refl; scanner_value = refl; store_after = c.let_go.ensures.store_after; work_after = c.wipe-in-Next.ensures ∙ ap (λ (n : ℕ). replicate n 0) c.put_acks-n.auto.work; out_after = refl })
