@@ -30,6 +30,7 @@ fn most(x: usize, y: usize) -> usize
 }
 
 // The place behind the first newline from a place on; 0 where there is none.
+#[tactic(auto, using(crate::proofs::LawsFinding::newline_here, crate::proofs::LawsFinding::newline_on, crate::proofs::LawsFinding::newline_none))]
 fn newline(held: &[u8], from: usize) -> usize
     ensures { result ≡ newline_at from (drop from held.now) }
 {

@@ -1,11 +1,9 @@
 -- What a skip counts, and what it leaves.
 use Prim.Native.Nat.{ℕ, ◌+◌, ◌-◌, ◌≤◌, min}
-use mathlib.Core.Path.{◌≡◌, refl, ap}
+use mathlib.Core.Path.{◌≡◌, refl}
 use mathlib.Core.List.{List}
 use native.Mathlib.Omega.{arith}
-use lib.ListN.{length, take, drop, length-take, length-drop}
-use Rattle.base.specs.Outcome.{accepted}
-use Rattle.scanner.specs.Scanner.{held_of}
+use lib.ListN.{length, length-take, length-drop}
 use Rattle.scanner.specs.Skipping.{skipping}
 
 -- no more than are held, in the code's terms

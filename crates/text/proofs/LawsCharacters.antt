@@ -10,7 +10,6 @@ use borrow.Author.Tests.{ltb-true, ltb-false, leb-true}
 use Rattle.base.specs.Outcome.{pick}
 use Rattle.text.specs.Text.{Place, Lead, Follower, Failed, in_range, after_lead, after_follower, next, place_after, text_from, is_text_of, begun, forms_from, characters_from, characters_of}
 use Rattle.text.specs.Inner.{onto}
-use Rattle.text.specs.declared.text.Characters.{Characters}
 use Rattle.text.specs.declared.text.Characters.TheVariants.{Number, NoText}
 use Rattle.text.proofs.LawsText.{never_both, inside, above, failed, behind, characters_append, lead_plain, lead_low}
 

@@ -1,13 +1,10 @@
-use Prim.Native.Nat.{ℕ, ◌+◌, ◌-◌}
+use Prim.Native.Nat.{◌+◌}
 use mathlib.Core.Path.{◌≡◌, ap, sym, ◌∙◌}
 use native.Mathlib.Omega.{arith}
-use mathlib.Core.Bool.{Bool, true, false}
-use mathlib.Core.List.{List}
-use lib.ListN.{drop, get_or}
-use Rattle.base.specs.Outcome.{pick}
-use Rattle.text.specs.Text.{Place, Failed, after_lead, characters_from, characters_of}
+use mathlib.Core.Bool.{true}
+use lib.ListN.{get_or}
 use Rattle.text.specs.Inner.{onto}
-use Rattle.text.specs.declared.text.Characters.TheVariants.{Number, NoText}
+use Rattle.text.specs.declared.text.Characters.TheVariants.{Number}
 use Rattle.text.proofs.LawsText.{follows_in, follow_last, all_read, plain_on, form_on, form_broken, no_form, lead_two, lead_e0, lead_ed, lead_three, lead_f0, lead_f4, lead_four, lead_high, lead_low}
 use Rattle.text.proofs.text.count_characters.Goals as goal
 
@@ -25,8 +22,6 @@ overflow_add-i-in-194-to-223-2 c = omega (arith, follows_in c.args.bytes.now (c.
 
 pub loop-i-preserved-then-b-lt224-2 : goal.loop-i-preserved-then-b-lt224-2
 loop-i-preserved-then-b-lt224-2 c =
-    
-   
     let t : c.follows.result ≡ true = c.if-not-follows.false in
     (omega (arith, follows_in c.args.bytes.now (c.loop-i.i + 1) 0x80 0xBF (sym c.follows.ensures ∙ t)), omega arith, form_on c.args.bytes.now _ c.loop-i.i _ c.loop-i.invariant.2 c.loop-i-test.true _ (lead_two (get_or c.args.bytes.now c.loop-i.i 0) (omega arith) (omega arith)) 1 c.follows.result (follow_last c.args.bytes.now (c.loop-i.i + 1) 0x80 0xBF c.follows.result c.follows.ensures) (c.loop-i.i + 2) (omega arith) t)
 
@@ -44,8 +39,6 @@ overflow_add-i-in-224-2 c = omega (arith, c.two_follow.ensures.at_in_bounds c.if
 
 pub loop-i-preserved-in-224 : goal.loop-i-preserved-in-224
 loop-i-preserved-in-224 c =
-    
-   
     let t : c.two_follow.result ≡ true = c.if-not-two_follow.false in
     (omega (arith, c.two_follow.ensures.at_in_bounds t), omega arith, form_on c.args.bytes.now _ c.loop-i.i _ c.loop-i.invariant.2 c.loop-i-test.true _ (lead_e0 _ c.in-224.is) 2 c.two_follow.result c.two_follow.ensures.bytes_value (c.loop-i.i + 3) (omega arith) t)
 
@@ -57,8 +50,6 @@ overflow_add-i-in-237-2 c = omega (arith, c.two_follow-in-237.ensures.at_in_boun
 
 pub loop-i-preserved-in-237 : goal.loop-i-preserved-in-237
 loop-i-preserved-in-237 c =
-    
-   
     let t : c.two_follow-in-237.result ≡ true = c.if-not-two_follow-2.false in
     (omega (arith, c.two_follow-in-237.ensures.at_in_bounds t), omega arith, form_on c.args.bytes.now _ c.loop-i.i _ c.loop-i.invariant.2 c.loop-i-test.true _ (lead_ed _ c.in-237.is) 2 c.two_follow-in-237.result c.two_follow-in-237.ensures.bytes_value (c.loop-i.i + 3) (omega arith) t)
 
@@ -70,8 +61,6 @@ overflow_add-i-in-240-2 c = omega (arith, c.three_follow.ensures.at_in_bounds c.
 
 pub loop-i-preserved-in-240 : goal.loop-i-preserved-in-240
 loop-i-preserved-in-240 c =
-    
-   
     let t : c.three_follow.result ≡ true = c.if-not-three_follow.false in
     (omega (arith, c.three_follow.ensures.at_in_bounds t), omega arith, form_on c.args.bytes.now _ c.loop-i.i _ c.loop-i.invariant.2 c.loop-i-test.true _ (lead_f0 _ c.in-240.is) 3 c.three_follow.result c.three_follow.ensures.bytes_value (c.loop-i.i + 4) (omega arith) t)
 
@@ -83,8 +72,6 @@ overflow_add-i-in-244-2 c = omega (arith, c.three_follow-in-244.ensures.at_in_bo
 
 pub loop-i-preserved-in-244 : goal.loop-i-preserved-in-244
 loop-i-preserved-in-244 c =
-    
-   
     let t : c.three_follow-in-244.result ≡ true = c.if-not-three_follow-2.false in
     (omega (arith, c.three_follow-in-244.ensures.at_in_bounds t), omega arith, form_on c.args.bytes.now _ c.loop-i.i _ c.loop-i.invariant.2 c.loop-i-test.true _ (lead_f4 _ c.in-244.is) 3 c.three_follow-in-244.result c.three_follow-in-244.ensures.bytes_value (c.loop-i.i + 4) (omega arith) t)
 
@@ -96,8 +83,6 @@ overflow_add-i-in-225-to-239-2 c = omega (arith, c.two_follow-in-225-to-239.ensu
 
 pub loop-i-preserved-then-b-lt240 : goal.loop-i-preserved-then-b-lt240
 loop-i-preserved-then-b-lt240 c =
-    
-   
     let t : c.two_follow-in-225-to-239.result ≡ true = c.if-not-two_follow-3.false in
     (omega (arith, c.two_follow-in-225-to-239.ensures.at_in_bounds t), omega arith, form_on c.args.bytes.now _ c.loop-i.i _ c.loop-i.invariant.2 c.loop-i-test.true _ (lead_three (get_or c.args.bytes.now c.loop-i.i 0) (omega arith) (omega arith) (λ e. omega arith)) 2 c.two_follow-in-225-to-239.result c.two_follow-in-225-to-239.ensures.bytes_value (c.loop-i.i + 3) (omega arith) t)
 
@@ -109,8 +94,6 @@ overflow_add-i-in-241-to-243-2 c = omega (arith, c.three_follow-in-241-to-243.en
 
 pub loop-i-preserved : goal.loop-i-preserved
 loop-i-preserved c =
-    
-   
     let t : c.three_follow-in-241-to-243.result ≡ true = c.if-not-three_follow-3.false in
     (omega (arith, c.three_follow-in-241-to-243.ensures.at_in_bounds t), omega arith, form_on c.args.bytes.now _ c.loop-i.i _ c.loop-i.invariant.2 c.loop-i-test.true _ (lead_four (get_or c.args.bytes.now c.loop-i.i 0) (omega arith) (omega arith)) 3 c.three_follow-in-241-to-243.result c.three_follow-in-241-to-243.ensures.bytes_value (c.loop-i.i + 4) (omega arith) t)
 
