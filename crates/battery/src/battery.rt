@@ -18,6 +18,7 @@ pub enum Charging {
 }
 
 impl Charging {
+    #[tactic(auto, unfolding(crate::specs::Battery::charging_of))]
     fn from_byte(byte: u8) -> Charging
         ensures { result ≡ charging_of byte }
     {

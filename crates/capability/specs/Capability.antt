@@ -1,7 +1,7 @@
 -- 01, "Messages and decoders": `decode_noise_capability`.
 use Rattle.std.specs.Prelude.{ℕ, zero, suc, ◌+◌, Bool, false, ◌&&◌, ◌||◌, not, ◌≡◌, List, [], ◌∷◌, ◌++◌, eqb, leb, length, get_or, take, drop}
 use Rattle.std.specs.Bool.{beq}
-use Rattle.std.proofs.Math.Option.{Option, none, some, Option·elim}
+use Rattle.std.proofs.Math.Option.{Option, none, some, Option-elim}
 use Rattle.base.specs.Outcome.{Outcome, accepted, refused, pick, on_accepted}
 use Rattle.base.specs.Refusal.{refusal_told}
 use Rattle.reading.specs.Message.{kind_of}
@@ -57,7 +57,7 @@ elements = counted 2 (fixed 4) 0
 unfoldable pub ranges_from : List ℕ → (seen : List AmbientRange) → ℕ → Outcome (List AmbientRange)
 ranges_from p seen zero = accepted seen
 ranges_from p seen (suc left) =
-    Option·elim (element_of p (item_at (elements p) p (length seen))) (refused 19 [])
+    Option-elim (element_of p (item_at (elements p) p (length seen))) (refused 19 [])
     (λ r. pick (heard r.voice seen) (refused 19 []) (ranges_from p (seen ++ r ∷ []) left))
 
 -- the kind with its ranges

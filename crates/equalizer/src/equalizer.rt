@@ -53,6 +53,7 @@ pub fn equalizer_steps(payload: &[u8]) -> &[u8]
 }
 
 impl EqShape {
+    #[tactic(auto, unfolding(crate::specs::Equalizer::shape_of))]
     pub fn of(steps: usize) -> EqShape
         ensures { result ≡ shape_of steps }
     {

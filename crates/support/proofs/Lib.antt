@@ -1,2 +1,1 @@
 pub mod LawsSupport
-pub mod Walk

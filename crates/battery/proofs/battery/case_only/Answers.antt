@@ -7,4 +7,4 @@ pub returns-then-case-gt-HIGHEST_LEVEL : goal.returns-then-case-gt-HIGHEST_LEVEL
 returns-then-case-gt-HIGHEST_LEVEL c = rw (lt-ltb 100 (body_at c.args.payload.now 0) (omega (arith, c.if-case-gt-HIGHEST_LEVEL.true)))
 
 pub returns : goal.returns
-returns c = rw (c.Cell-at.ensures, le-ltb 100 (body_at c.args.payload.now 0) (omega (arith, c.if-case-gt-HIGHEST_LEVEL.false)))
+returns c = rw (c.cell_at.ensures, le-ltb 100 (body_at c.args.payload.now 0) (omega (arith, c.if-case-gt-HIGHEST_LEVEL.false)))

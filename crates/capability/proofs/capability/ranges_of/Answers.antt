@@ -1,9 +1,12 @@
+use Rattle.base.specs.Outcome.{refused}
+use Rattle.capability.specs.Capability.{ranges_from}
 use Rattle.capability.proofs.LawsCapability.{begun, not_range, twice, next, reported, places, room, heard_not, heard_here, heard_none}
 use Prim.Native.Nat.{◌-◌}
-use mathlib.Core.Path.{refl, sym, ◌∙◌}
-use mathlib.Core.Logic.{⊎_elim}
+use mathlib.Core.Path.{◌≡◌, refl, sym, ◌∙◌}
+use mathlib.Core.List.{[]}
 use native.Mathlib.Omega.{arith}
 use Rattle.capability.proofs.capability.ranges_of.Goals as goal
+use Rattle.capability.proofs.capability.ranges_of.Goals.{else-outer-test, then-outer-test+in-Range+then-loop-k-test+then-ranges-k}
 
 pub outer-init : goal.outer-init
 outer-init c = begun _ _ c.unset-none.ensures
@@ -33,11 +36,15 @@ pub outer-preserved : goal.outer-preserved
 outer-preserved c = next c.outer.invariant c.outer-test.true c.element_at.ensures c.in-Range.is (sym c.loop-k.invariant.1 ∙ heard_none c.outer.invariant.held _ _ c.loop-k-test.false)
 
 pub returns-then-i-count : goal.returns-then-i-count
-returns-then-i-count c = rw (⊎_elim
-    (λ w. absurd (omega (arith, w.left)))
-    (λ w. twice c.outer.invariant w.0.taken w.1.ensures w.3.given.1
-    (sym w.5.inv.1 ∙ heard_here c.outer.invariant.held _ _ w.6.taken _ w.8.taken))
-    c.outer-test.branch) c.refuse-then-i-count.ensures
+returns-then-i-count c =
+    let e : ranges_from c.args.payload.now [] c.args.count ≡ refused 19 [] =
+    elim c.outer-test.branch [
+      | else-outer-test w ↦ absurd (omega arith)
+      | then-outer-test+in-Range+then-loop-k-test+then-ranges-k w ↦
+          twice c.outer.invariant w.outer-test.true w.element_at.ensures w.in-Range.is
+          (sym w.loop-k.invariant.1 ∙ heard_here c.outer.invariant.held _ _ w.loop-k-test.true _ w.if-ranges-k.true)
+    ] in
+    rw e c.refuse-then-i-count.ensures
 
 pub returns : goal.returns
 returns c = reported c.outer.invariant _ c.if-i-count.false

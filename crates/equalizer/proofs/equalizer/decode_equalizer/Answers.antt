@@ -17,10 +17,6 @@ pub returns-then-payload-lt4 : goal.returns-then-payload-lt4
 unfolding equalizer_of
 returns-then-payload-lt4 c = rw (read_uncounted (λ kind. eqb kind 0) 3 1 _ c.args.payload.now (omega arith) (eq-eqb _ 0 c.if-payload-ne0.false) (omega arith))
 
-pub overflow_cast-count : goal.overflow_cast-count
-unfolding equalizer_of
-overflow_cast-count c = omega (arith, c.shared_slice_known-2-1.given 3)
-
 pub returns-then-payload-count : goal.returns-then-payload-count
 unfolding equalizer_of
 returns-then-payload-count c = rw (read_uncounted (λ kind. eqb kind 0) 3 1 _ c.args.payload.now (omega arith) (eq-eqb _ 0 c.if-payload-ne0.false) (omega arith))

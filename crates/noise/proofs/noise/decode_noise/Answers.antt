@@ -1,6 +1,7 @@
 use mathlib.Core.Logic.{⊎_elim, inl, inr}
 use mathlib.Core.Path.{refl, sym}
 use borrow.Author.Tests.{ne_eqb}
+use lib.ListN.{get_or}
 use Rattle.reading.proofs.LawsReading.{read_short, read_unserved, layout_unfit, layout_fits}
 use Rattle.noise.specs.Noise.{noise_layout, noise_of}
 use Prim.Native.Nat.{◌-◌}
@@ -17,7 +18,7 @@ returns-then-len-ne7 c = ⊎_elim (λ k. sym (layout_unfit noise_layout _ k refl
 
 pub returns-in-21 : goal.returns-in-21
 unfolding noise_of noise_layout
-returns-in-21 c = let h = c in rw c.full.ensures (⊎_elim (λ k. sym (layout_fits noise_layout _ k refl (omega arith) h.if-len-ne7.false)) (λ k. sym (layout_fits noise_layout _ k refl (omega arith) h.if-len-ne7.false)) h.in-21.is)
+returns-in-21 c = rw c.full.ensures (⊎_elim (λ k. sym (layout_fits noise_layout _ k refl (omega arith) c.if-len-ne7.false)) (λ k. sym (layout_fits noise_layout _ k refl (omega arith) c.if-len-ne7.false)) c.in-21.is)
 
 pub returns-then-len-ne9 : goal.returns-then-len-ne9
 unfolding noise_of noise_layout
@@ -25,7 +26,7 @@ returns-then-len-ne9 c = sym (layout_unfit noise_layout _ c.in-25.is refl (omega
 
 pub returns-in-25 : goal.returns-in-25
 unfolding noise_of noise_layout
-returns-in-25 c = let h = c in rw c.full-in-25.ensures (sym (layout_fits noise_layout _ h.in-25.is refl (omega arith) h.if-len-ne9.false))
+returns-in-25 c = rw c.full-in-25.ensures (sym (layout_fits noise_layout _ c.in-25.is refl (omega arith) c.if-len-ne9.false))
 
 pub returns-then-len-ne6 : goal.returns-then-len-ne6
 unfolding noise_of noise_layout
@@ -33,7 +34,7 @@ returns-then-len-ne6 c = sym (layout_unfit noise_layout _ c.in-34.is refl (omega
 
 pub returns-in-34 : goal.returns-in-34
 unfolding noise_of noise_layout
-returns-in-34 c = let h = c in rw c.ambient_only.ensures (sym (layout_fits noise_layout _ h.in-34.is refl (omega arith) h.if-len-ne6.false))
+returns-in-34 c = rw c.ambient_only.ensures (sym (layout_fits noise_layout _ c.in-34.is refl (omega arith) c.if-len-ne6.false))
 
 pub returns-then-len-ne7-2 : goal.returns-then-len-ne7-2
 unfolding noise_of noise_layout
@@ -41,7 +42,7 @@ returns-then-len-ne7-2 c = sym (layout_unfit noise_layout _ c.in-19.is refl (ome
 
 pub returns-in-19 : goal.returns-in-19
 unfolding noise_of noise_layout
-returns-in-19 c = let h = c in rw c.switch_and_ambient.ensures (sym (layout_fits noise_layout _ h.in-19.is refl (omega arith) h.if-len-ne7-2.false))
+returns-in-19 c = rw c.switch_and_ambient.ensures (sym (layout_fits noise_layout _ c.in-19.is refl (omega arith) c.if-len-ne7-2.false))
 
 pub returns-then-len-ne5 : goal.returns-then-len-ne5
 unfolding noise_of noise_layout
@@ -49,8 +50,17 @@ returns-then-len-ne5 c = sym (layout_unfit noise_layout _ c.in-1.is refl (omega 
 
 pub returns-in-1 : goal.returns-in-1
 unfolding noise_of noise_layout
-returns-in-1 c = let h = c in rw c.switch_only.ensures (sym (layout_fits noise_layout _ h.in-1.is refl (omega arith) h.if-len-ne5.false))
+returns-in-1 c = rw c.switch_only.ensures (sym (layout_fits noise_layout _ c.in-1.is refl (omega arith) c.if-len-ne5.false))
 
 pub returns : goal.returns
 unfolding noise_of noise_layout
-returns c = sym (read_unserved _ _ _ _ (omega arith) (simp (ne_eqb _ _ (λ e. c.in-21.rest.0.0.0.0.1 (inl e)), ne_eqb _ _ (λ e. c.in-21.rest.0.0.0.0.1 (inr e)), ne_eqb _ _ c.in-21.rest.0.0.0.1, ne_eqb _ _ c.in-21.rest.0.0.1, ne_eqb _ _ c.in-21.rest.0.1, ne_eqb _ _ c.in-21.rest.1)))
+returns c =
+    let k = get_or c.args.payload.now 1 0 in
+    sym (read_unserved _ _ _ _ (omega arith) (simp (
+      ne_eqb k 0x15 (grind arith),
+      ne_eqb k 0x17 (grind arith),
+      ne_eqb k 0x19 (omega arith),
+      ne_eqb k 0x22 (omega arith),
+      ne_eqb k 0x13 (omega arith),
+      ne_eqb k 0x01 (omega arith),
+    )))

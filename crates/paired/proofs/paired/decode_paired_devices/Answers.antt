@@ -19,9 +19,6 @@ returns-then-payload-lt4 c =
     let p = c.args.payload.now in
     sym (read_unfit _ _ _ p (record { long = omega arith; kind = eq-eqb _ _ c.if-payload-ne2.false }) (λ e. omega (arith, walk_grows (headed 21) p (get_or p 2 0) 3)))
 
-pub overflow_cast-count : goal.overflow_cast-count
-overflow_cast-count c = omega (arith, c.shared_slice_known-3-1.given 2)
-
 pub returns-then-payload-end-ne1 : goal.returns-then-payload-end-ne1
 returns-then-payload-end-ne1 c = sym (read_unfit _ _ _ _ (record { long = omega arith; kind = eq-eqb _ _ c.if-payload-ne2.false }) (λ e. omega arith))
 

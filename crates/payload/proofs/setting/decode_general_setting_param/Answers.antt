@@ -1,5 +1,6 @@
 use mathlib.Core.Path.{refl, sym}
 use borrow.Author.Tests.{eq-eqb, ne_eqb}
+use lib.ListN.{get_or}
 use Rattle.reading.proofs.LawsReading.{read_short, layout_unfit, layout_fits}
 use Rattle.payload.specs.Setting.{setting_contents, setting_layout, setting_of}
 use Prim.Native.Nat.{◌-◌}
@@ -16,16 +17,19 @@ returns-then-len-ne4 c = sym (layout_unfit setting_layout _ refl refl (omega ari
 
 pub returns-then-payload-ne-GS_BOOLEAN_TYPE : goal.returns-then-payload-ne-GS_BOOLEAN_TYPE
 unfolding setting_of setting_contents
-returns-then-payload-ne-GS_BOOLEAN_TYPE c = let s = c in rw (layout_fits setting_layout s.args.payload.now refl refl (omega arith) s.if-len-ne4.false, ne_eqb _ _ c.if-payload-ne-GS_BOOLEAN_TYPE.true)
+returns-then-payload-ne-GS_BOOLEAN_TYPE c = rw (layout_fits setting_layout c.args.payload.now refl refl (omega arith) c.if-len-ne4.false, ne_eqb _ _ c.if-payload-ne-GS_BOOLEAN_TYPE.true)
 
 pub returns-in-0 : goal.returns-in-0
 unfolding setting_of setting_contents
-returns-in-0 c = let s = c in rw (layout_fits setting_layout s.args.payload.now refl refl (omega arith) s.if-len-ne4.false, eq-eqb _ _ c.if-payload-ne-GS_BOOLEAN_TYPE.false, c.in-0.is)
+returns-in-0 c = rw (layout_fits setting_layout c.args.payload.now refl refl (omega arith) c.if-len-ne4.false, eq-eqb _ _ c.if-payload-ne-GS_BOOLEAN_TYPE.false, c.in-0.is)
 
 pub returns-in-1 : goal.returns-in-1
 unfolding setting_of setting_contents
-returns-in-1 c = let s = c in rw (layout_fits setting_layout s.args.payload.now refl refl (omega arith) s.if-len-ne4.false, eq-eqb _ _ c.if-payload-ne-GS_BOOLEAN_TYPE.false, c.in-1.is)
+returns-in-1 c = rw (layout_fits setting_layout c.args.payload.now refl refl (omega arith) c.if-len-ne4.false, eq-eqb _ _ c.if-payload-ne-GS_BOOLEAN_TYPE.false, c.in-1.is)
 
 pub returns-in_default : goal.returns-in_default
 unfolding setting_of setting_contents
-returns-in_default c = let s = c in simp (layout_fits setting_layout s.args.payload.now refl refl (omega arith) s.if-len-ne4.false, eq-eqb _ _ c.if-payload-ne-GS_BOOLEAN_TYPE.false, ne_eqb _ _ c.in-0.rest.0.1, ne_eqb _ _ c.in-0.rest.1)
+returns-in_default c =
+    let p = c.args.payload.now in
+    let v = get_or p 3 0 in
+    simp (layout_fits setting_layout p refl refl (omega arith) c.if-len-ne4.false, eq-eqb _ _ c.if-payload-ne-GS_BOOLEAN_TYPE.false, ne_eqb v 0x00 (omega arith), ne_eqb v 0x01 (omega arith))

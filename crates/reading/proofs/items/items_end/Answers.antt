@@ -18,9 +18,6 @@ returns-then-len-at c =
     let a = c.args in
     omega (arith, walk_past (headed a.head) a.payload.now c.loop-left.left c.loop-left.at c.loop-left-test.true, c.loop-left.invariant.2)
 
-pub overflow_cast-more : goal.overflow_cast-more
-overflow_cast-more c = omega (arith, c.shared_slice_known-1.given (c.loop-left.at + c.args.head))
-
 pub returns-then-len-at-2 : goal.returns-then-len-at-2
 returns-then-len-at-2 c =
     let l = c.loop-left in

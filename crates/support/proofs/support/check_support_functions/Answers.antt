@@ -17,14 +17,6 @@ pub returns-then-payload-lt3 : goal.returns-then-payload-lt3
 unfolding check_of
 returns-then-payload-lt3 c = rw (read_uncounted (λ kind. eqb kind 0) 2 2 _ c.args.payload.now (omega arith) (eq-eqb _ 0 c.if-payload-ne0.false) (omega arith))
 
-pub overflow_cast-count : goal.overflow_cast-count
-unfolding check_of
-overflow_cast-count c = omega (arith, c.shared_slice_known-2-1.given 2)
-
-pub overflow_mul-count : goal.overflow_mul-count
-unfolding check_of
-overflow_mul-count c = omega (arith, c.shared_slice_known-2-1.given 2)
-
 pub returns-then-payload-count : goal.returns-then-payload-count
 unfolding check_of
 returns-then-payload-count c = rw (read_uncounted (λ kind. eqb kind 0) 2 2 _ c.args.payload.now (omega arith) (eq-eqb _ 0 c.if-payload-ne0.false) (omega arith))

@@ -18,6 +18,5 @@ pub returns-else-room-count : goal.returns-else-room-count
 unfolding support_call
 returns-else-room-count c =
     let told = c.check_support_functions.ensures in
-    let n = c.count-1.given in
     let long = was_list c.args.payload.now c.in-Count.count (sym (rw c.in-Count.is at told)) in
-    (omega (arith, c.if-room-count.false), omega (arith, long), λ rs l. rw (← told, c.in-Count.is, le-ltb (length rs) c.in-Count.count (omega (arith, c.if-room-count.false))))
+    (omega arith, omega arith, λ rs l. rw (← told, c.in-Count.is, le-ltb (length rs) c.in-Count.count (omega arith)))

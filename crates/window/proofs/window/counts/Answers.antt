@@ -1,23 +1,23 @@
-use Prim.Native.Nat.{◌≤◌}
+use Prim.Native.Nat.{ℕ, ◌≤◌}
+use mathlib.Core.Path.{◌≡◌}
 use Rattle.window.proofs.LawsWindow.{width_least, width_most}
-use Rattle.window.specs.Window.{counts_of}
+use Rattle.window.specs.Window.{width_of, counts_of}
 use Rattle.window.proofs.window.counts.Goals as goal
-use Rattle.window.proofs.window.counts.Lts as lts
 
-bounds : (c : lts.After-nearest-width) → (1 ≤ c.nearest-width.result) × (c.nearest-width.result ≤ 64)
-bounds c = let w = c.args.window.width in rw c.nearest-width.ensures (width_least w, width_most w)
+bounds : (width : ℕ) {nearest : ℕ} → nearest ≡ width_of width → (1 ≤ nearest) × (nearest ≤ 64)
+bounds width e = rw e (width_least width, width_most width)
 
 pub ones_among-requires : goal.ones_among-requires
-ones_among-requires c = bounds c
+ones_among-requires c = bounds c.args.window.width c.nearest-width.ensures
 
 pub ones_among-requires-2 : goal.ones_among-requires-2
-ones_among-requires-2 c = bounds c
+ones_among-requires-2 c = bounds c.args.window.width c.nearest-width.ensures
 
 pub ones_among-requires-3 : goal.ones_among-requires-3
-ones_among-requires-3 c = bounds c
+ones_among-requires-3 c = bounds c.args.window.width c.nearest-width.ensures
 
 pub ones_among-requires-4 : goal.ones_among-requires-4
-ones_among-requires-4 c = bounds c
+ones_among-requires-4 c = bounds c.args.window.width c.nearest-width.ensures
 
 pub returns : goal.returns
 unfolding counts_of

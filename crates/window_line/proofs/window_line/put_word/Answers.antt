@@ -11,12 +11,11 @@ pub bounds-out-next : goal.bounds-out-next
 bounds-out-next c = omega (arith, room_for c.loop-i.invariant.1 (byte_begins _ _ c.loop-i-test.true))
 
 pub overflow_add-next : goal.overflow_add-next
-overflow_add-next c = omega (arith, room_for c.loop-i.invariant.1 (byte_begins _ _ c.loop-i-test.true), c.loop-i.invariant.1.same, c.type_inv)
+overflow_add-next c = omega (arith, room_for c.loop-i.invariant.1 (byte_begins _ _ c.loop-i-test.true), c.loop-i.invariant.1.same)
 
 pub loop-i-preserved : goal.loop-i-preserved
 loop-i-preserved c =
-    let l = c in
-    (omega arith, step l.loop-i.invariant.1 (byte_begins _ _ l.loop-i-test.true) put)
+    (omega arith, step c.loop-i.invariant.1 (byte_begins _ _ c.loop-i-test.true) put)
 
 pub shape_of-out : goal.shape_of-out
 shape_of-out c = c.loop-i.invariant.1.same

@@ -2,43 +2,43 @@ use Prim.Native.Nat.{◌+◌, ◌≤◌, ◌<◌}
 use mathlib.Core.Path.{◌≡◌, refl}
 use native.Mathlib.Omega.{arith}
 use lib.ListN.{length}
-use Rattle.base.proofs.LawsWriting.{write_refused}
+use Rattle.base.proofs.LawsWriting.{write_fits, write_refused}
 use Rattle.window_line.specs.WindowLine.{shown, counts_line}
-use Rattle.window_line.proofs.LawsWindowLine.{digits_few, line_length}
+use Rattle.window_line.proofs.LawsWindowLine.{digits_few, line_length, line_stored}
 use Rattle.window_line.proofs.window_line.write_counts.Goals as goal
-use Rattle.window_line.proofs.window_line.write_counts.Lts as lts
 
-few : (c : lts.After-places) → c.places.result ≤ 2
-few c = omega (arith, c.places.ensures, digits_few (shown c.args.counts.off))
-
-few-2 : (c : lts.After-places-2) → c.places.result + c.places-2.result ≤ 4
-few-2 c = omega (arith, few c, c.places-2.ensures, digits_few (shown c.args.counts.anc))
-
-few-3 : (c : lts.After-places-3) → c.places.result + c.places-2.result + c.places-3.result ≤ 6
-few-3 c = omega (arith, few-2 c, c.places-3.ensures, digits_few (shown c.args.counts.ambient))
-
-few-4 : (c : lts.After-places-4) → c.places.result + c.places-2.result + c.places-3.result + c.places-4.result ≤ 8
-few-4 c = omega (arith, few-3 c, c.places-4.ensures, digits_few (shown c.args.counts.level))
-
--- the line's length, as it was measured
-
-measured : (c : lts.After-places-4) → 26 + (c.places.result + c.places-2.result + c.places-3.result + c.places-4.result) ≡ length (counts_line c.args.counts)
-measured c = omega (arith, c.places-4.ensures, c.places-3.ensures, c.places-2.ensures, c.places.ensures, line_length c.args.counts)
-
+-- each number has at most two digits
 pub overflow_add-digits : goal.overflow_add-digits
-overflow_add-digits c = omega (arith, few-2 c)
+overflow_add-digits c =
+    let n = c.args.counts in
+    omega (arith, digits_few (shown n.off), digits_few (shown n.anc))
 
 pub overflow_add-digits-2 : goal.overflow_add-digits-2
-overflow_add-digits-2 c = omega (arith, few-3 c)
+overflow_add-digits-2 c =
+    let n = c.args.counts in
+    omega (arith, digits_few (shown n.off), digits_few (shown n.anc), digits_few (shown n.ambient))
 
 pub overflow_add-digits-3 : goal.overflow_add-digits-3
-overflow_add-digits-3 c = omega (arith, few-4 c)
+overflow_add-digits-3 c =
+    let n = c.args.counts in
+    omega (arith, digits_few (shown n.off), digits_few (shown n.anc), digits_few (shown n.ambient), digits_few (shown n.level))
 
 pub overflow_add-digits-4 : goal.overflow_add-digits-4
-overflow_add-digits-4 c = omega (arith, few-4 c)
+overflow_add-digits-4 c =
+    let n = c.args.counts in
+    omega (arith, digits_few (shown n.off), digits_few (shown n.anc), digits_few (shown n.ambient), digits_few (shown n.level))
 
+-- the line's length is as it was measured
 pub returns-then-out-digits : goal.returns-then-out-digits
 returns-then-out-digits c =
     let a = c.args in
-    let long : length a.out.now < length (counts_line a.counts) = omega (arith, measured c, c.if-out-digits.true) in
+    let long : length a.out.now < length (counts_line a.counts) = omega (arith, line_length a.counts) in
     rw (write_refused 7 (counts_line a.counts) a.out.now long) (record { result_value = refl; out_after = refl })
+
+pub returns : goal.returns
+returns c =
+    let a = c.args in
+    let fits : length (counts_line a.counts) ≤ length a.out.now = omega (arith, line_length a.counts) in
+    rw (write_fits 7 {bytes = counts_line a.counts} {out = a.out.now} fits
+    (line_stored a.counts c.put_named-a.ensures c.put_named-b.ensures c.put_named-c.ensures c.put_named-end.ensures))
+    (record { result_value = refl; out_after = refl })

@@ -5,7 +5,7 @@ use Rattle.range.proofs.range.AmbientRange.admits.Goals as goal
 
 pub returns-then-level-lt0 : goal.returns-then-level-lt0
 unfolding admits_of
-returns-then-level-lt0 c = below_zero _ c.ranges.level _ c.if-level-lt0.true
+returns-then-level-lt0 c = below_zero _ c.ranges.level c.args.self c.if-level-lt0.true
 
 pub overflow_cast-at : goal.overflow_cast-at
 unfolding admits_of
