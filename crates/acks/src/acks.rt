@@ -89,6 +89,7 @@ fn acks_len(held: &[u8]) -> usize
 }
 
 // Whether an output of this length takes them all. A frame has 9 bytes or more and its ack at most 11, so that they need not be measured where there is room for that.
+#[tactic(auto, using(crate::proofs::LawsAcks::acks_bound))]
 fn acks_fit(held: &[u8], room: usize) -> bool
     ensures { result ≡ nat_le (length (acks_in held.now)) room }
 {

@@ -6,12 +6,9 @@ use native.Mathlib.Omega.{arith}
 use native.Mathlib.Numerals.{add-one}
 use lib.ListN.{length, get_or, take, drop, set, take-append-drop, drop_of_length-le}
 use lib.Seq.{drop-cons, drop-length, take_all, take-suc-set, drop-set-lt, append_snoc}
-use types.Run.{OneOf, miss}
-use denote.Enum.Declared.{tag_of}
-use Rattle.base.specs.contracts.refusal.Refusal.{the_type}
 use Rattle.base.specs.Refusal.{listed, number_of, refusal_told}
 use Rattle.base.specs.declared.refusal.Refusal.{Refusal}
-use Rattle.base.specs.declared.refusal.Refusal.TheVariants.{LimitOutOfRange, StoreTooShort, HeldBeyondStore, StoreFull, BadPlan, WorkTooShort, LineTooLong, TooShort, NoStart, NoEnd, NoRoom, TrailingSentry, BadEscapee, BodyTooShort, BadChecksum, LengthMismatch, PayloadTooLong, OutputTooShort, OtherMessage, TooFewRecords, NoSuchDevice, StepZero, NotText, NotALine, WrongKind, WrongLength, CountFull, BillOutOfRange, LevelTooHigh}
+use Rattle.base.specs.declared.refusal.Refusal.TheVariants.{BadEscapee, BadChecksum, LengthMismatch}
 use Rattle.base.specs.Outcome.{Outcome, accepted}
 use Rattle.telling.specs.Told.{status_of, numbers_of, told}
 
@@ -62,40 +59,12 @@ module _ (a b : ℕ) where
   two_told (v ∷ []) h = absurd (omega arith)
   two_told (v ∷ w ∷ vs) h = refl
 
--- the refusals that the last arm of `refuse` is left
-abbrev pub Bare : List ℕ
-Bare = 0 ∷ 1 ∷ 2 ∷ 3 ∷ 4 ∷ 5 ∷ 6 ∷ 7 ∷ 8 ∷ 9 ∷ 10 ∷ 11 ∷ 13 ∷ 16 ∷ 17 ∷ 18 ∷ 19 ∷ 20 ∷ 21 ∷ 22 ∷ 23 ∷ 24 ∷ 25 ∷ 26 ∷ 27 ∷ 28 ∷ []
-
-pub valueless : (r : Refusal) → OneOf Bare (tag_of the_type r) → (listed r).1 ≡ []
-valueless LimitOutOfRange k = refl
-valueless StoreTooShort k = refl
-valueless HeldBeyondStore k = refl
-valueless StoreFull k = refl
-valueless BadPlan k = refl
-valueless WorkTooShort k = refl
-valueless LineTooLong k = refl
-valueless TooShort k = refl
-valueless NoStart k = refl
-valueless NoEnd k = refl
-valueless NoRoom k = refl
-valueless TrailingSentry k = refl
-valueless (BadEscapee b) k = absurd (miss Bare 12 tt k)
-valueless BodyTooShort k = refl
-valueless (BadChecksum d e) k = absurd (miss Bare 14 tt k)
-valueless (LengthMismatch d a) k = absurd (miss Bare 15 tt k)
-valueless PayloadTooLong k = refl
-valueless OutputTooShort k = refl
-valueless OtherMessage k = refl
-valueless TooFewRecords k = refl
-valueless NoSuchDevice k = refl
-valueless StepZero k = refl
-valueless NotText k = refl
-valueless NotALine k = refl
-valueless WrongKind k = refl
-valueless WrongLength k = refl
-valueless CountFull k = refl
-valueless BillOutOfRange k = refl
-valueless LevelTooHigh k = refl
+-- the refusals that the last arm of `refuse` is left have no values
+pub valueless : (r : Refusal) → ((b : ℕ) → r ≡ BadEscapee b → ⊥) → ((d e : ℕ) → r ≡ BadChecksum d e → ⊥) → ((d a : ℕ) → r ≡ LengthMismatch d a → ⊥) → (listed r).1 ≡ []
+valueless (BadEscapee b) k l m = absurd (k b refl)
+valueless (BadChecksum d e) k l m = absurd (l d e refl)
+valueless (LengthMismatch d a) k l m = absurd (m d a refl)
+valueless r k l m = refl
 
 -- an accepted value, a refusal, and the answer of a callee that tells the same
 module _ {A : Type 0} (f : A → List ℕ) (vs : List ℕ) {o : Outcome A} {ws : List ℕ} where

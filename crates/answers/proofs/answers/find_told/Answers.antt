@@ -1,9 +1,5 @@
 use mathlib.Core.Path.{refl}
-use borrow.Author.Rules.{rules}
 use Rattle.answers.proofs.answers.find_told.Goals as goal
-
-pub enum_told-1 : goal.enum_told-1
-enum_told-1 c = search rules
 
 pub returns-in-At : goal.returns-in-At
 returns-in-At c = rw c.in-At.is (record { value = refl; values_after = c.tell.ensures })

@@ -1,8 +1,4 @@
-use borrow.Author.Rules.{rules}
 use Rattle.answers.proofs.answers.sight_told.Goals as goal
-
-pub enum_told-1 : goal.enum_told-1
-enum_told-1 c = search rules
 
 pub returns-in-NoStart : goal.returns-in-NoStart
 returns-in-NoStart c = rw c.in-NoStart.is c.tell.ensures

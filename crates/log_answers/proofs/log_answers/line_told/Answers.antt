@@ -1,9 +1,5 @@
 use mathlib.Core.Path.{refl}
-use borrow.Author.Rules.{rules}
 use Rattle.log_answers.proofs.log_answers.line_told.Goals as goal
-
-pub enum_told-1 : goal.enum_told-1
-enum_told-1 c = search rules
 
 pub returns-in-Line : goal.returns-in-Line
 returns-in-Line c = rw c.in-Line.is (record { value = refl; values_after = c.tell.ensures })

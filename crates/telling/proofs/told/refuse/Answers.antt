@@ -13,4 +13,5 @@ returns-in-LengthMismatch c = rw c.in-LengthMismatch.is (record { value = c.numb
 pub returns-in_default : goal.returns-in_default
 returns-in_default c =
     let a = c.args in
-    record { value = c.number-in_default.ensures; values_after = rw (valueless a.r c.in-BadEscapee.keys4, none_left a.values.now) }
+    let d = c.in_default in
+    record { value = c.number-in_default.ensures; values_after = rw (valueless a.r d.not-BadEscapee d.not-BadChecksum d.not-LengthMismatch, none_left a.values.now) }

@@ -1,3 +1,0 @@
--- What the proofs of several functions use.
-mod Walk
-mod WalkWindow

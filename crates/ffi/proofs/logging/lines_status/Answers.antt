@@ -1,4 +1,0 @@
-use Rattle.ffi.proofs.logging.lines_status.Goals as goal
-
-pub returns-in-Refused : goal.returns-in-Refused
-returns-in-Refused c = rw c.in-Refused.is c.number.ensures
