@@ -8,7 +8,6 @@ use Rattle.reading.specs.declared.message.OptionByte.{OptionByte}
 use Rattle.reading.specs.declared.message.OptionByte.TheVariants.{NoByte}
 use Rattle.battery.specs.declared.battery.Charging.{Charging}
 use Rattle.battery.specs.declared.battery.Charging.TheVariants.{No, Yes, Unknown, Charged, Other}
-use Rattle.battery.specs.declared.battery.Cell.{Cell}
 use Rattle.battery.specs.declared.battery.OptionCell.{OptionCell}
 use Rattle.battery.specs.declared.battery.OptionCell.TheVariants.{Present, Absent}
 use Rattle.battery.specs.declared.battery.BatteryReport.{BatteryReport}

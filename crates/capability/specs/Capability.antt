@@ -13,7 +13,6 @@ use Rattle.capability.specs.declared.capability.CapabilityAnswer.TheVariants.{Ki
 use Rattle.capability.specs.declared.capability.CapabilityReport.{CapabilityReport}
 use Rattle.capability.specs.declared.capability.NoiseCapability.{NoiseCapability}
 use Rattle.capability.specs.declared.capability.Element.{Element}
-use Rattle.capability.specs.declared.capability.Element.TheVariants as Element
 
 -- the kind, and the ranges in order
 pub record Capability : Type 0 where

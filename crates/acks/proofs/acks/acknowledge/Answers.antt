@@ -1,4 +1,4 @@
-use Rattle.std.proofs.Common.{◌≡◌, ℕ, ◌+◌, ◌-◌, ◌≤◌, false, List, length, take, replicate, sym, refl, ap, ◌∙◌, arith, length-take-le, leb-false, leb-true}
+use Rattle.std.proofs.Common.{◌≡◌, ℕ, ◌+◌, ◌-◌, ◌≤◌, false, List, take, replicate, sym, refl, ap, ◌∙◌, arith, length-take-le, leb-false, leb-true}
 use Rattle.base.specs.Outcome.{accepted}
 use Rattle.base.specs.Refusal.{refusal_told}
 use Rattle.cutting.specs.declared.deciding.Moved.{Moved}

@@ -9,7 +9,6 @@ use Rattle.heading.specs.Heading.{header_read}
 use Rattle.heading.proofs.LawsHeading.{header_unpacked}
 use Rattle.acks.specs.Acks.{due_told, due_in, ack_frame, span_ack}
 use Rattle.acks.specs.declared.acks.Due.{Due}
-use Rattle.acks.specs.declared.acks.Due.TheVariants.{Ack}
 use Rattle.acks.proofs.LawsAcks.{ack_writes, span_nothing, span_owed}
 use Rattle.acks.proofs.acks.put_span_ack.Goals as goal
 

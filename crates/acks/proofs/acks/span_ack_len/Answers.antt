@@ -1,5 +1,4 @@
-use Rattle.std.proofs.Common.{◌≡◌, ap, ◌∙◌}
-use Rattle.heading.specs.Heading.{header_read}
+use Rattle.std.proofs.Common.{ap, ◌∙◌}
 use Rattle.acks.specs.Acks.{due_in}
 use Rattle.acks.proofs.LawsAcks.{span_nothing, span_owed}
 use Rattle.acks.proofs.acks.span_ack_len.Goals as goal

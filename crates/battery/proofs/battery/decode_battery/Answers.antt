@@ -4,7 +4,6 @@ use lib.ListN.{get_or}
 use Rattle.reading.proofs.LawsReading.{read_short, read_unserved, layout_unfit, layout_fits}
 use Rattle.battery.specs.Battery.{battery_layout, any_level_of}
 use Rattle.battery.proofs.LawsBattery.{refused_before, levels_tried_lem}
-use Prim.Native.Nat.{◌-◌}
 use native.Mathlib.Omega.{arith}
 use Rattle.battery.proofs.battery.decode_battery.Goals as goal
 

@@ -1,7 +1,6 @@
 use Rattle.base.specs.Outcome.{refused}
 use Rattle.capability.specs.Capability.{ranges_from}
 use Rattle.capability.proofs.LawsCapability.{begun, not_range, twice, next, reported, places, room, heard_not, heard_here, heard_none}
-use Prim.Native.Nat.{◌-◌}
 use mathlib.Core.Path.{◌≡◌, refl, sym, ◌∙◌}
 use mathlib.Core.List.{[]}
 use native.Mathlib.Omega.{arith}

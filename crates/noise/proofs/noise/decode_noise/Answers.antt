@@ -1,10 +1,9 @@
-use mathlib.Core.Logic.{⊎_elim, inl, inr}
+use mathlib.Core.Logic.{⊎_elim}
 use mathlib.Core.Path.{refl, sym}
 use borrow.Author.Tests.{ne_eqb}
 use lib.ListN.{get_or}
 use Rattle.reading.proofs.LawsReading.{read_short, read_unserved, layout_unfit, layout_fits}
 use Rattle.noise.specs.Noise.{noise_layout, noise_of}
-use Prim.Native.Nat.{◌-◌}
 use native.Mathlib.Omega.{arith}
 use Rattle.noise.proofs.noise.decode_noise.Goals as goal
 

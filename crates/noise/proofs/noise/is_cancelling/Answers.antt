@@ -1,4 +1,3 @@
-use Prim.Native.Nat.{◌-◌}
 use Rattle.noise.proofs.noise.is_cancelling.Goals as goal
 
 pub returns-in-Byte-switch : goal.returns-in-Byte-switch

@@ -1,5 +1,4 @@
 use borrow.Author.Tests.{eq-eqb, ne_eqb}
-use Prim.Native.Nat.{◌-◌}
 use Rattle.noise.proofs.noise.noise_mode.Goals as goal
 
 pub returns-then-effect-ne1 : goal.returns-then-effect-ne1

@@ -1,4 +1,3 @@
-use Prim.Native.Nat.{◌-◌}
 use Rattle.noise.proofs.noise.noise_report.Goals as goal
 
 pub returns : goal.returns

@@ -1,4 +1,3 @@
-use Prim.Native.Nat.{◌-◌}
 use lib.ListN.{get_or}
 use mathlib.Core.Path.{sym}
 use native.Mathlib.Omega.{arith}

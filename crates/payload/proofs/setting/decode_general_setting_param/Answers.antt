@@ -3,7 +3,6 @@ use borrow.Author.Tests.{eq-eqb, ne_eqb}
 use lib.ListN.{get_or}
 use Rattle.reading.proofs.LawsReading.{read_short, layout_unfit, layout_fits}
 use Rattle.payload.specs.Setting.{setting_contents, setting_layout, setting_of}
-use Prim.Native.Nat.{◌-◌}
 use native.Mathlib.Omega.{arith}
 use Rattle.payload.proofs.setting.decode_general_setting_param.Goals as goal
 

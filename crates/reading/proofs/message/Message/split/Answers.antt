@@ -1,6 +1,5 @@
 use borrow.Author.Tests.{eq-eqb, ne_eqb}
 use Rattle.reading.specs.Message.{split_of}
-use Prim.Native.Nat.{◌-◌}
 use Rattle.reading.proofs.message.Message.split.Goals as goal
 
 pub returns-then-len-eq0 : goal.returns-then-len-eq0
