@@ -1,5 +1,5 @@
 -- 02, C-14: the checksum from the far end, cut anywhere, is 01's. Assumes nothing.
-use Rattle.std.proofs.Common.{suc, ◌≡◌, ℕ, zero, ◌+◌, ◌%◌, ◌<◌, ◌≤◌, List, [], ◌∷◌, ◌++◌, length, get_or, take, drop, sym, refl, ap, ◌∙◌, arith, take-append-drop, drop-cons, take-add}
+use Rattle.std.proofs.Common.{suc, ◌≡◌, ℕ, zero, ◌+◌, ◌%◌, ◌<◌, ◌≤◌, List, [], ◌∷◌, ◌++◌, length, get_or, take, drop, sym, refl, ◌∙◌, arith, drop-cons, take-add}
 use mathlib.Core.List.{foldr, flatten}
 use Rattle.base.specs.Sum.{total, checksum_of}
 use Rattle.from_end.specs.FromEnd.{back_onto}
@@ -23,10 +23,6 @@ whole bytes = omega (arith, back_total 0 bytes (omega arith))
 -- the end summed first, and the front added onto it
 pub far_end : (xs ys : List ℕ) → back_onto (back_onto 0 ys) xs ≡ checksum_of (xs ++ ys)
 far_end xs ys = sym (back_append 0 xs ys) ∙ whole (xs ++ ys)
-
--- a list, and any place to cut it at
-pub cut_anywhere : (bytes : List ℕ) (k : ℕ) → back_onto (back_onto 0 (drop k bytes)) (take k bytes) ≡ checksum_of bytes
-cut_anywhere bytes k = far_end (take k bytes) (drop k bytes) ∙ ap checksum_of (take-append-drop k bytes)
 
 -- any number of parts: the last onto 0, and each before it onto what that gave
 parts_back : (ps : List (List ℕ)) → foldr (λ p sum. back_onto sum p) 0 ps ≡ back_onto 0 (flatten ps)

@@ -1,2 +1,3 @@
 pub mod LawsFromEnd
 pub mod CasesFromEnd
+pub mod LawsCut
