@@ -16,10 +16,10 @@
 #![tactic(auto)]
 
 mod calls;
-mod lines;
+mod cases;
 
 fn main(rt: HostRuntime) {
     let mut input = replay::room();
     let n = replay::read_full(&mut rt.stdin(), &mut input);
-    lines::run(&rt, &input[..n]);
+    cases::run(&rt, &input[..n]);
 }
