@@ -1,4 +1,4 @@
-use mathlib.Core.Path.{ap, ◌∙◌}
+use Rattle.std.proofs.Common.{ap, ◌∙◌}
 use Rattle.range.specs.Narrowing.{then_within}
 use Rattle.range.proofs.LawsNarrowing.{narrowing_twice}
 use Rattle.replay_range.proofs.narrowing.twice.Goals as goal
