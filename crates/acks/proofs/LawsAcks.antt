@@ -1,6 +1,5 @@
 -- The acks of spans: how the walk over them goes, how many there are and how long. Assumes nothing.
-use Rattle.std.proofs.Common.{◌≡◌, ℕ, zero, suc, ◌+◌, ◌-◌, ◌*◌, ◌/◌, ◌%◌, ◌<◌, ◌≤◌, Bool, true, false, ltb, List, [], ◌∷◌, ◌++◌, length, take, drop, sym, refl, ap, ◌∙◌, append_assoc, append-nil, add-zero, arith, length-append, length-drop, drop-drop, drop_at, ltb-false, ltb-true}
-use mathlib.Core.Option.{Option, none, some}
+use Rattle.std.proofs.Common.{◌≡◌, ℕ, zero, suc, ◌+◌, ◌-◌, ◌*◌, ◌/◌, ◌%◌, ◌<◌, ◌≤◌, Bool, true, false, ltb, List, [], ◌∷◌, ◌++◌, length, take, drop, sym, refl, ap, ◌∙◌, append_assoc, append-nil, add-zero, arith, length-append, length-drop, drop-drop, drop_at, ltb-false, ltb-true, Option, Some, None}
 use lib.Seq.{append_snoc}
 use Rattle.base.specs.Sum.{total}
 use Rattle.base.specs.Writing.{write_call}
@@ -17,9 +16,7 @@ use Rattle.held.specs.declared.search.Sight.TheVariants.{NoStart, NoEnd, Both}
 use Rattle.held.proofs.LawsSearch.{Sees, sees, spot_part, span_length}
 use Rattle.held.proofs.LawsSpans.{holds}
 use Rattle.masked_log.specs.Demand3.{NoneAbove, joined}
-use Rattle.acks.specs.declared.acks.Due.{Due}
-use Rattle.acks.specs.declared.acks.Due.TheVariants.{Nothing, Ack}
-use Rattle.acks.specs.Acks.{due_told, due_in, ack_frame, acks_by, acks_of, acks_in, span_ack}
+use Rattle.acks.specs.Acks.{due_in, ack_frame, acks_by, acks_of, acks_in, span_ack}
 
 -- 01's ack is a frame
 pub ack_writes : (seq : ℕ) (out : List ℕ) → ack_call seq out ≡ write_call (ack_frame seq) out
@@ -58,12 +55,12 @@ pub ack_width : (seq : ℕ) → (9 ≤ length (ack_frame seq)) × (length (ack_f
 ack_width seq = (omega (arith, ack_length seq, no_shorter (ack_body seq)), omega (arith, ack_length seq, ack_few (answer seq) ((1 + answer seq) % 256)))
 
 -- a span's ack, by what is due
-module _ (span : List ℕ) {d : Due} (told : due_told d ≡ due_in (header_read span)) where
-  pub span_nothing : d ≡ Nothing → span_ack span ≡ []
+module _ (span : List ℕ) {d : (Option ℕ)} (told : d ≡ due_in (header_read span)) where
+  pub span_nothing : d ≡ None → span_ack span ≡ []
   unfolding span_ack
   span_nothing is = rw (← told, is)
 
-  pub span_owed : {seq : ℕ} → d ≡ Ack seq → span_ack span ≡ ack_frame seq
+  pub span_owed : {seq : ℕ} → d ≡ Some seq → span_ack span ≡ ack_frame seq
   unfolding span_ack
   span_owed {seq} is = rw (← told, is) (append-nil (ack_frame seq))
 
@@ -105,8 +102,8 @@ one_ack : (span : List ℕ) → 9 * length (acks_by (due_in (header_read span)))
 one_ack span = go (ltb (length span) 9) refl
   where
     at_most_one : (o : Option ℕ) → 9 ≤ length span → 9 * length (acks_by o) ≤ length span
-    at_most_one none h = omega arith
-    at_most_one (some seq) h = omega arith
+    at_most_one None h = omega arith
+    at_most_one (Some seq) h = omega arith
 
     go : (t : Bool) → ltb (length span) 9 ≡ t → 9 * length (acks_by (due_in (header_read span))) ≤ length span
     go true e = rw (head_short span (ltb-true (length span) 9 e)) (omega arith)
@@ -134,8 +131,8 @@ at_most_eleven [] = tt
 at_most_eleven (span ∷ ss) = go (due_in (header_read span)) (at_most_eleven ss)
   where
     go : (o : Option ℕ) → NoneAbove 11 (acks_of ss) → NoneAbove 11 (acks_by o ++ acks_of ss)
-    go none k = k
-    go (some seq) k = ((ack_width seq).1, k)
+    go None k = k
+    go (Some seq) k = ((ack_width seq).1, k)
 
 -- so they are at most so many bytes together
 joined_bound : (ls : List (List ℕ)) → NoneAbove 11 ls → length (joined ls) ≤ 11 * length ls

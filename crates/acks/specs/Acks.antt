@@ -1,24 +1,22 @@
 -- 02, C-22: a station that acknowledges.
-use Rattle.std.specs.Prelude.{ℕ, ◌-◌, ◌%◌, Bool, List, [], ◌∷◌, ◌++◌, length, ◌==◌, nat_lt}
-use Rattle.std.proofs.Math.Option.{Option, none, some}
+use Rattle.std.specs.Prelude.{ℕ, ◌-◌, ◌%◌, Bool, List, [], ◌∷◌, ◌++◌, length, ◌==◌, nat_lt, Option, Some, None}
 use Rattle.base.specs.Outcome.{Outcome, accepted, refused, pick}
 use Rattle.base.specs.DataType.{to_wire}
 use Rattle.base.specs.Writing.{zeros, write_call}
 use Rattle.base.specs.declared.data_type.DataType.TheVariants.{Ack}
-use Rattle.framing.specs.Framing.{Header, body_of, frame_of}
+use Rattle.framing.specs.Framing.{body_of, frame_of}
+use Rattle.framing.specs.declared.framing.Header.{Header}
 use Rattle.heading.specs.Heading.{header_read}
 use Rattle.held.specs.Spans.{spans}
 use Rattle.scanner.specs.Scanner.{Effect, held_of}
 use Rattle.scanner.specs.declared.scanner.Scanner.{Scanner}
 use Rattle.draining.specs.Draining.{drain_call}
 use Rattle.masked_log.specs.Demand3.{joined}
-use Rattle.acks.specs.declared.acks.Due.{Due}
-use Rattle.acks.specs.declared.acks.Due.TheVariants as D
 
 -- what unpack gives of a span: "each accepted frame whose type isn't `Ack`", by its sequence
 abbrev pub due_in : Outcome Header → Option ℕ
-due_in (refused n vs) = none
-due_in (accepted h) = pick (to_wire h.kind == to_wire Ack) none (some h.seq)
+due_in (refused n vs) = None
+due_in (accepted h) = pick (to_wire h.data_type == to_wire Ack) None (Some h.seq)
 
 -- 01's ack of a sequence: "type `01`, sequence 1 minus the given one, wrapping"
 unfoldable pub ack_frame : ℕ → List ℕ
@@ -26,8 +24,8 @@ ack_frame seq = frame_of (body_of (to_wire Ack) ((257 - seq) % 256) [])
 
 -- "writes an ack for each accepted frame whose type isn't `Ack`, in the order of the spans"; "Refused spans and acks get none": none or one
 abbrev pub acks_by : Option ℕ → List (List ℕ)
-acks_by none = []
-acks_by (some seq) = ack_frame seq ∷ []
+acks_by None = []
+acks_by (Some seq) = ack_frame seq ∷ []
 
 abbrev pub acks_of : List (List ℕ) → List (List ℕ)
 acks_of [] = []
@@ -65,11 +63,6 @@ station_by (accepted held) s store work out =
 -- "it goes through every span": takes until one finds none, with their acks at the front of the output
 unfoldable pub station_call : Scanner → (store work out : List ℕ) → StationEffect
 station_call s store work out = station_by (held_of s store) s store work out
-
--- the code's form of what is due
-abbrev pub due_told : Due → Option ℕ
-due_told D.Nothing = none
-due_told (D.Ack seq) = some seq
 
 -- a span's ack, if it gets one
 unfoldable pub span_ack : List ℕ → List ℕ

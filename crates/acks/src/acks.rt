@@ -1,44 +1,29 @@
 // Every span of the held bytes goes, and each accepted frame that is no ack itself is acknowledged.
 ghost use Rattle.std.specs.Prelude.{◌≡◌, ◌+◌, ◌≤◌, length, nat_le};
-ghost use Rattle.base.specs.Writing.{written_told};
 ghost use Rattle.base.specs.Stored.{Stored};
-ghost use Rattle.framing.specs.Framing.{unpacked_told};
-ghost use Rattle.acks.specs.Acks.{due_told, due_in, ack_frame, span_ack, acks_in, station_call};
+ghost use Rattle.acks.specs.Acks.{due_in, ack_frame, span_ack, acks_in, station_call};
+ghost use Rattle.base.specs.Refusal.{outcome_of};
 
-use base::{Refusal, Written, wipe};
+use base::{Refusal, wipe};
 use draining::decide_all;
 use escaping::escaped_len;
-use framing::{Unpacked, ack, unpack};
+use framing::{Header, ack, unpack};
 use heading::read_header;
 use held::{Sight, let_go, seek};
-use scanner::{Checked, Counted, Scanner, advance, check};
+use scanner::{Scanner, advance, check};
 
 // The wire byte of an ack.
 const ACK: u8 = 0x01;
 
 // What a span is owed: nothing, or an ack of the frame that came with this sequence.
-#[derive(Clone, Copy)]
-enum Due {
-    Nothing,
-    Ack(u8),
-}
 
-fn owed(unpacked: Unpacked) -> Due
-    ensures { due_told result ≡ due_in (unpacked_told unpacked) }
+fn owed(unpacked: Result<Header, Refusal>) -> Option<u8>
+    ensures { result ≡ due_in (outcome_of unpacked) }
 {
     match unpacked {
-        Unpacked::Refused(_) => Due::Nothing,
-        Unpacked::Frame {
-            data_type,
-            seq,
-            len: _,
-        } => {
-            if data_type.to_wire() == ACK {
-                Due::Nothing
-            } else {
-                Due::Ack(seq)
-            }
-        }
+        Ok(header) if header.data_type.to_wire() != ACK => Some(header.seq),
+        Ok(_) => None,
+        Err(_) => None,
     }
 }
 
@@ -46,16 +31,8 @@ fn owed(unpacked: Unpacked) -> Due
 fn ack_len(seq: u8) -> usize
     ensures { result ≡ length (ack_frame seq) }
 {
-    let answer = std::num::wrapping_sub_u8(1, seq);
-    let body = [
-        ACK,
-        answer,
-        0,
-        0,
-        0,
-        0,
-        std::num::wrapping_add_u8(1, answer),
-    ];
+    let answer = 1u8.wrapping_sub(seq);
+    let body = [ACK, answer, 0, 0, 0, 0, 1u8.wrapping_add(answer)];
     2 + escaped_len(&body)
 }
 
@@ -64,8 +41,8 @@ fn span_ack_len(span: &[u8]) -> usize
     ensures { result ≡ length (span_ack span.now) }
 {
     match owed(read_header(span)) {
-        Due::Nothing => 0,
-        Due::Ack(seq) => ack_len(seq),
+        None => 0,
+        Some(seq) => ack_len(seq),
     }
 }
 
@@ -75,6 +52,7 @@ fn acks_len(held: &[u8]) -> usize
 {
     let mut past = 0;
     let mut len = 0;
+    // a `loop`: where a span begins shows only behind the one before
     loop {
         match seek(&held[past..]) {
             Sight::NoStart => return len,
@@ -106,10 +84,10 @@ fn put_span_ack(span: &[u8], work: &mut [u8], out: &mut [u8], at: usize) -> usiz
 {
     let n = span.len();
     match owed(unpack(span, &mut work[..n])) {
-        Due::Nothing => at,
-        Due::Ack(seq) => match ack(seq, &mut out[at..]) {
-            Written::Bytes(n) => at + n,
-            Written::Refused(_) => at,
+        None => at,
+        Some(seq) => match ack(seq, &mut out[at..]) {
+            Ok(n) => at + n,
+            Err(_) => at,
         },
     }
 }
@@ -121,6 +99,7 @@ fn put_acks(held: &[u8], work: &mut [u8], out: &mut [u8]) -> usize
 {
     let mut past = 0;
     let mut next = 0;
+    // a `loop`, as above
     loop {
         match seek(&held[past..]) {
             Sight::NoStart => return next,
@@ -136,27 +115,27 @@ fn put_acks(held: &[u8], work: &mut [u8], out: &mut [u8]) -> usize
 
 #[derive(Clone, Copy)]
 pub struct Acked {
-    pub answer: Written,
+    pub answer: Result<usize, Refusal>,
     pub scanner: Scanner,
 }
 
 // Takes until one finds no span, with the acks of the spans at the front of the output.
 pub fn acknowledge(scanner: Scanner, store: &mut [u8], work: &mut [u8], out: &mut [u8]) -> Acked
-    ensures answer_value { written_told result.answer ≡ (station_call scanner store.old work.old out.old).answer }
+    ensures answer_value { outcome_of result.answer ≡ (station_call scanner store.old work.old out.old).answer }
     ensures scanner_value { result.scanner ≡ (station_call scanner store.old work.old out.old).scanner }
     ensures store_after { store.new ≡ (station_call scanner store.old work.old out.old).store }
     ensures work_after { work.new ≡ (station_call scanner store.old work.old out.old).work }
     ensures out_after { out.new ≡ (station_call scanner store.old work.old out.old).out }
 {
-    if let Checked::Refused(r) = check(scanner, store) {
+    if let Err(r) = check(scanner, store) {
         return Acked {
-            answer: Written::Refused(r),
+            answer: Err(r),
             scanner,
         };
     }
     if work.len() < store.len() {
         return Acked {
-            answer: Written::Refused(Refusal::WorkTooShort),
+            answer: Err(Refusal::WorkTooShort),
             scanner,
         };
     }
@@ -164,23 +143,23 @@ pub fn acknowledge(scanner: Scanner, store: &mut [u8], work: &mut [u8], out: &mu
     if !acks_fit(&store[..count], out.len()) {
         wipe(work);
         return Acked {
-            answer: Written::Refused(Refusal::OutputTooShort),
+            answer: Err(Refusal::OutputTooShort),
             scanner,
         };
     }
     let moved = decide_all(&store[..count], scanner.limit);
     let goes = moved.dropped + moved.handed;
     match advance(scanner, count - goes, moved) {
-        Counted::Refused(r) => Acked {
-            answer: Written::Refused(r),
+        Err(r) => Acked {
+            answer: Err(r),
             scanner,
         },
-        Counted::Next(next) => {
+        Ok(next) => {
             let n = put_acks(&store[..count], work, out);
             wipe(work);
             let_go(store, count, goes);
             Acked {
-                answer: Written::Bytes(n),
+                answer: Ok(n),
                 scanner: next,
             }
         }

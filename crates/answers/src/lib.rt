@@ -2,5 +2,10 @@
 #![tactic(auto)]
 
 mod answers;
+mod frames;
+mod logs;
+mod readings;
 
-pub use answers::{characters_told, find_told, header_told, sight_told, take_told, written_told};
+pub use answers::{Told, answer_told, status};
+pub use logs::line_read_told;
+pub use readings::characters_told;

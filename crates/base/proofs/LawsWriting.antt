@@ -1,7 +1,7 @@
 -- Loops and chains of calls that store bytes in a lent output. Assumes nothing.
-use Rattle.std.proofs.Common.{◌≡◌, ℕ, suc, ◌+◌, ◌-◌, ◌<◌, ◌≤◌, Bool, true, false, ltb, List, [], ◌∷◌, ◌++◌, length, get_or, take, drop, set, replicate, sym, refl, ap, ◌∙◌, append_assoc, append-nil, add-zero, zero-add, add-one, arith, length-append, length-drop, length-set, take-append-drop, drop_of_length-le, take_all, drop-cons, drop-drop, take-suc-set, ltb-false, ltb-true, le-ltb, lt-ltb}
+use Rattle.std.proofs.Common.{◌≡◌, ℕ, suc, ◌+◌, ◌-◌, ◌<◌, ◌≤◌, Bool, true, false, ltb, List, [], ◌∷◌, ◌++◌, length, get_or, take, drop, set, replicate, sym, refl, ap, ◌∙◌, append_assoc, append-nil, add-zero, zero-add, add-one, arith, length-append, length-drop, take-append-drop, drop_of_length-le, take_all, drop-cons, drop-drop, ltb-false, ltb-true, le-ltb, lt-ltb}
 use native.Mathlib.Nat.{sub-zero}
-use lib.Seq.{sets, sets-eq, length-sets, append_snoc}
+use lib.Seq.{sets, sets-eq, length-sets}
 use borrow.Rule.Slice.PartMut.{put_mid}
 use Rattle.base.specs.Outcome.{accepted, refused, pick}
 use Rattle.base.specs.Writing.{WriteEffect, over, zeros, zeroed_from, write_or, write_call}
@@ -119,17 +119,7 @@ module _ (bytes out : List ℕ) (at : ℕ) (h : at + length bytes ≤ length out
   pub part_stored : Stored bytes out at (put_mid at (length out - at) out (write_call bytes (take (length out - at) (drop at out))).out) (at + length bytes)
   part_stored = record { bytes = rw (part_written, put_rest at out (over bytes (drop at out)), drop-drop (length bytes) at out, sets-eq bytes out at h, append_assoc); place = refl }
 
--- zeroing from i on, one byte at a time
-pub zeroed_step : (xs : List ℕ) (i : ℕ) → i < length xs → zeroed_from (i + 1) (set xs i 0) ≡ zeroed_from i xs
-unfolding zeroed_from
-zeroed_step xs i h =
-    let e : length xs - i ≡ suc (length xs - suc i) = omega arith in
-    rw (add-one i, take-suc-set xs i 0 h, length-set xs i 0, e) (append_snoc (take i xs) 0 (replicate (length xs - suc i) 0))
-
-pub zeroed_end : (xs : List ℕ) (i : ℕ) → length xs ≤ i → xs ≡ zeroed_from i xs
-unfolding zeroed_from
-zeroed_end xs i h = let e : length xs - i ≡ 0 = omega arith in rw (take_all i xs h, e) (sym (append-nil xs))
-
+-- all of it
 pub zeroed_all : (xs : List ℕ) → zeroed_from 0 xs ≡ zeros xs
 unfolding zeroed_from
 zeroed_all xs = ap (λ (n : ℕ). replicate n 0) (sub-zero (length xs))

@@ -1,6 +1,6 @@
 -- 01, "The refusal list", and 02's numbers behind it.
-use Rattle.std.specs.Prelude.{ℕ, List, [], ◌∷◌}
-use Rattle.base.specs.Outcome.{Outcome, refused}
+use Rattle.std.specs.Prelude.{ℕ, List, [], ◌∷◌, Result, Ok, Err}
+use Rattle.base.specs.Outcome.{Outcome, accepted, refused}
 use Rattle.base.specs.declared.refusal.Refusal.{Refusal}
 use Rattle.base.specs.declared.refusal.Refusal.TheVariants.{LimitOutOfRange, StoreTooShort, HeldBeyondStore, StoreFull, BadPlan, WorkTooShort, LineTooLong, TooShort, NoStart, NoEnd, NoRoom, TrailingSentry, BadEscapee, BodyTooShort, BadChecksum, LengthMismatch, PayloadTooLong, OutputTooShort, OtherMessage, TooFewRecords, NoSuchDevice, StepZero, NotText, NotALine, WrongKind, WrongLength, CountFull, BillOutOfRange, LevelTooHigh}
 
@@ -41,3 +41,8 @@ number_of r = (listed r).0
 
 abbrev pub refusal_told : {A : Type 0} → Refusal → Outcome A
 refusal_told r = refused (listed r).0 (listed r).1
+
+-- what a call's answer comes to
+abbrev pub outcome_of : {A : Type 0} → Result A Refusal → Outcome A
+outcome_of (Ok a) = accepted a
+outcome_of (Err r) = refusal_told r

@@ -1,4 +1,4 @@
--- What the private writers promise: bytes stored in an output from a place on, and the next place.
+-- What the writers promise: bytes stored in an output from a place on, and the next place.
 use Rattle.std.specs.Prelude.{◌≡◌, ℕ, ◌+◌, List, length}
 use Rattle.std.proofs.lemmas.List.Edits.{sets}
 

@@ -1,14 +1,6 @@
 -- What a call that writes bytes to a lent output answers and leaves.
 use Rattle.std.specs.Prelude.{ℕ, ◌-◌, List, [], ◌++◌, length, take, drop, replicate, nat_lt}
 use Rattle.base.specs.Outcome.{Outcome, accepted, refused, pick}
-use Rattle.base.specs.Refusal.{refusal_told}
-use Rattle.base.specs.declared.writing.Written.{Written}
-use Rattle.base.specs.declared.writing.Written.TheVariants.{Bytes, Refused}
-
--- the count of bytes written, or the refusal
-abbrev pub written_told : Written → Outcome ℕ
-written_told (Bytes n) = accepted n
-written_told (Refused r) = refusal_told r
 
 pub record WriteEffect : Type 0 where
   pub answer : Outcome ℕ

@@ -5,11 +5,5 @@ ghost use Rattle.std.specs.Prelude.{◌≡◌, ◌+◌, min};
 pub fn block_end(from: usize, len: usize, most: usize) -> usize
     ensures { result ≡ min len (from + most) }
 {
-    if len <= from {
-        return len;
-    }
-    if len - from <= most {
-        return len;
-    }
-    from + most
+    from.saturating_add(most).min(len)
 }

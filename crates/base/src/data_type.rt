@@ -2,7 +2,7 @@
 ghost use Rattle.std.specs.Prelude.{◌≡◌};
 ghost use Rattle.base.specs.DataType.{from_wire, to_wire};
 
-#[derive(Clone, Copy)]
+#[derive(Clone, Copy, Debug, PartialEq, Eq)]
 pub enum DataType {
     Data,
     Ack,
@@ -22,6 +22,7 @@ pub enum DataType {
     Unknown(u8),
 }
 
+// No `From`: the names say that the byte is the one on the wire.
 impl DataType {
     #[tactic(auto, unfolding(crate::specs::DataType::from_wire))]
     pub fn from_wire(b: u8) -> DataType

@@ -11,4 +11,4 @@ pub use block::block_end;
 pub use data_type::DataType;
 pub use refusal::Refusal;
 pub use sum::checksum;
-pub use writing::{Written, wipe, wipe_from};
+pub use writing::{wipe, wipe_from};

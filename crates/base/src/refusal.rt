@@ -2,7 +2,7 @@
 ghost use Rattle.std.specs.Prelude.{◌≡◌};
 ghost use Rattle.base.specs.Refusal.{number_of};
 
-#[derive(Clone, Copy)]
+#[derive(Clone, Copy, Debug, PartialEq, Eq)]
 pub enum Refusal {
     LimitOutOfRange,
     StoreTooShort,
@@ -55,14 +55,8 @@ impl Refusal {
             Refusal::TrailingSentry => 12,
             Refusal::BadEscapee(_) => 13,
             Refusal::BodyTooShort => 14,
-            Refusal::BadChecksum {
-                declared: _,
-                computed: _,
-            } => 15,
-            Refusal::LengthMismatch {
-                declared: _,
-                actual: _,
-            } => 16,
+            Refusal::BadChecksum { .. } => 15,
+            Refusal::LengthMismatch { .. } => 16,
             Refusal::PayloadTooLong => 17,
             Refusal::OutputTooShort => 18,
             Refusal::OtherMessage => 19,

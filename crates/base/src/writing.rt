@@ -2,23 +2,13 @@
 ghost use Rattle.std.specs.Prelude.{◌≡◌};
 ghost use Rattle.base.specs.Writing.{zeroed_from, zeros};
 
-use crate::refusal::Refusal;
-
-// How many bytes a call wrote, from the front of its output on.
-#[derive(Clone, Copy)]
-pub enum Written {
-    Bytes(usize),
-    Refused(Refusal),
-}
-
 // Every byte from `from` on becomes zero.
+#[tactic(auto, unfolding(crate::specs::Writing::zeroed_from))]
 pub fn wipe_from(out: &mut [u8], from: usize)
     ensures { out.new ≡ zeroed_from from out.old }
 {
-    let mut i = from;
-    while i < out.len() {
-        out[i] = 0;
-        i += 1;
+    if from < out.len() {
+        out[from..].fill(0);
     }
 }
 
@@ -26,5 +16,5 @@ pub fn wipe_from(out: &mut [u8], from: usize)
 pub fn wipe(out: &mut [u8])
     ensures { out.new ≡ zeros out.old }
 {
-    wipe_from(out, 0);
+    out.fill(0);
 }

@@ -7,27 +7,26 @@ use Rattle.base.specs.Outcome.{accepted, refused}
 use Rattle.reading.specs.Items.{walk}
 use Rattle.reading.specs.Reading.{reading_of, by_kind}
 use Rattle.reading.proofs.LawsReading.{OneLength, layout_length, then_length, Causes, layout_causes, then_causes, Whole, whole_29, whole_accepted, whole_pick, either_layout, accepted_layout, no_layout_lem}
-use Rattle.reading.specs.declared.message.OptionByte.TheVariants.{Byte, NoByte}
 use Rattle.battery.specs.Battery.{main_only, battery_layout, any_level_of, any_high, levels_tried, battery_of, charging_of}
 use Rattle.battery.specs.declared.battery.Charging.TheVariants.{Yes}
-use Rattle.battery.specs.declared.battery.OptionCell.TheVariants.{Present, Absent}
 use Rattle.battery.specs.declared.battery.BatteryReport.{BatteryReport}
+use Rattle.std.specs.Prelude.{Some, None}
 
 -- (h), its payload: level 80, charging
 pub case_h :
     battery_of (0x23 ∷ 0x00 ∷ 0x50 ∷ 0x01 ∷ []) ≡
     accepted (record {
-      main = Present (record { level = 80; charging = Yes; threshold = NoByte });
-      left = Absent;
-      right = Absent;
-      case = Absent;
+      main = Some (record { level = 80; charging = Yes; threshold = None });
+      left = None;
+      right = None;
+      case = None;
     })
 unfolding battery_of any_level_of battery_layout charging_of reading_of walk
 case_h = refl
 
 -- 100 passes and 101 does not; a threshold is no level; the length is tried first
 pub level_100 :
-    battery_of (0x23 ∷ 0x00 ∷ 100 ∷ 0x01 ∷ []) ≡ accepted (main_only (Present (record { level = 100; charging = Yes; threshold = NoByte })))
+    battery_of (0x23 ∷ 0x00 ∷ 100 ∷ 0x01 ∷ []) ≡ accepted (main_only (Some (record { level = 100; charging = Yes; threshold = None })))
 unfolding battery_of any_level_of battery_layout charging_of reading_of walk
 level_100 = refl
 
@@ -36,7 +35,7 @@ unfolding battery_of any_level_of battery_layout reading_of walk
 level_101 = refl
 
 pub threshold_255 :
-    battery_of (0x23 ∷ 0x08 ∷ 100 ∷ 0x01 ∷ 255 ∷ []) ≡ accepted (main_only (Present (record { level = 100; charging = Yes; threshold = Byte 255 })))
+    battery_of (0x23 ∷ 0x08 ∷ 100 ∷ 0x01 ∷ 255 ∷ []) ≡ accepted (main_only (Some (record { level = 100; charging = Yes; threshold = Some 255 })))
 unfolding battery_of any_level_of battery_layout charging_of reading_of walk
 threshold_255 = refl
 

@@ -3,4 +3,4 @@
 
 mod battery;
 
-pub use battery::{BatteryAnswer, BatteryReport, Cell, Charging, OptionCell, decode_battery};
+pub use battery::{BatteryReport, Cell, Charging, decode_battery};

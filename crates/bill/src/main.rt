@@ -6,8 +6,8 @@ mod lines;
 mod say;
 mod tax;
 
-use billing::{Billed, LineCounts, bill};
-use decimal::Argument;
+use billing::{Bill, LineCounts, bill};
+use decimal::ArgumentError;
 use lines::count_all;
 use say::{complain, tell};
 use tax::tax_given;
@@ -23,12 +23,12 @@ fn tell_all(rt: HostRuntime, counts: LineCounts, net: u64, total: u64) -> bool {
 
 fn report(rt: HostRuntime, counts: LineCounts, tax: u64) {
     match bill(counts, tax) {
-        Billed::Bill { net, total } => {
+        Ok(Bill { net, total }) => {
             if !tell_all(rt, counts, net, total) {
                 complain(rt, b"bill: cannot write to standard output\n");
             }
         }
-        Billed::Refused(_) => {
+        Err(_) => {
             if tax > 1000 {
                 complain(rt, b"bill: refused 28, the tax is above 1000\n");
             } else {
@@ -49,15 +49,18 @@ fn bill_at(rt: HostRuntime, tax: u64) {
 
 fn main(rt: HostRuntime) {
     match tax_given(rt) {
-        Argument::Number(tax) => bill_at(rt, tax),
-        Argument::Missing => complain(
+        Ok(tax) => bill_at(rt, tax),
+        Err(ArgumentError::Missing) => complain(
             rt,
             b"bill: refused 28, no tax is given; it is decimal digits, per thousand, from 0 to 1000\n",
         ),
-        Argument::NotANumber => complain(
+        Err(ArgumentError::NotANumber) => complain(
             rt,
             b"bill: refused 28, the tax is no number; it is decimal digits, per thousand, from 0 to 1000\n",
         ),
-        Argument::TooMany => complain(rt, b"bill: takes one argument, the tax per thousand\n"),
+        Err(ArgumentError::TooMany) => complain(
+            rt,
+            b"bill: takes one argument, the tax per thousand\n",
+        ),
     }
 }

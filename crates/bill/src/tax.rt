@@ -1,5 +1,5 @@
 // The tax, which is the one argument.
-use decimal::{Argument, number_argument};
+use decimal::{ArgumentError, number_argument};
 use std::env::FillError;
 use std::rt::Env;
 
@@ -22,7 +22,7 @@ fn arg_count(rt: HostRuntime) -> usize {
 }
 
 // The buffer takes any argument that Linux passes. A longer one would come as no bytes, which are no number.
-pub fn tax_given(rt: HostRuntime) -> Argument {
+pub fn tax_given(rt: HostRuntime) -> Result<u64, ArgumentError> {
     let mut text = [0u8; 131072];
     let n = rt.arg(1, &mut text).unwrap_or(0);
     number_argument(arg_count(rt), &text[..n])

@@ -12,7 +12,8 @@ use Rattle.base.proofs.LawsTests.{by_ltb}
 use Rattle.counting.specs.Counting.{GREATEST, lines_of, no_lines, text_counts, count_each}
 use Rattle.counting.specs.declared.counting.LineCounts.{LineCounts}
 use Rattle.counting.proofs.LawsCounts.{cap, capped, added, Within, capped_small, text_capped, text_behind}
-use Rattle.billing.specs.Billing.{Bill, net_of, total_of, MOST, out_of_range, bill_of, text_bill}
+use Rattle.billing.specs.Billing.{net_of, total_of, MOST, out_of_range, bill_of, text_bill}
+use Rattle.billing.specs.declared.amounts.Bill.{Bill}
 
 -- past 28: the tax and no count above their bounds
 module _ (c : LineCounts) (tax : ℕ) where

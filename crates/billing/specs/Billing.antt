@@ -1,17 +1,11 @@
 -- 02, C-18: "The bill for a log".
 use Rattle.std.specs.Prelude.{ℕ, ◌+◌, ◌*◌, ◌/◌, Bool, true, List, [], ltb}
 use Rattle.base.specs.Outcome.{Outcome, accepted, refused, pick, and_then}
-use Rattle.base.specs.Refusal.{refusal_told}
 use Rattle.counting.specs.Counting.{text_counts}
 use Rattle.counting.specs.declared.counting.LineCounts.{LineCounts}
-use Rattle.billing.specs.declared.billing.Billed.{Billed}
-use Rattle.billing.specs.declared.billing.Billed.TheVariants as B
+use Rattle.billing.specs.declared.amounts.Bill.{Bill}
 
 -- in cents
-pub record Bill : Type 0 where
-  pub net : ℕ
-  pub total : ℕ
-
 -- "four cents for an `F` line, two for an `S` line, nothing for `H` and `R`"; "The net is the four counts times their prices, added"
 abbrev pub net_of : LineCounts → ℕ
 net_of c = c.full * 4 + c.masked * 2 + c.header * 0 + c.unread * 0
@@ -39,8 +33,3 @@ bill_of c tax = pick (out_of_range c tax) (refused 28 []) (accepted (record { ne
 -- "The bill of a log is that of the line counts of its text; a text with a line the reader refuses by 24 is 24, tried first"
 unfoldable pub text_bill : List ℕ → (tax : ℕ) → Outcome Bill
 text_bill text tax = and_then (λ c. bill_of c tax) (text_counts text)
-
--- the answer in 01's numbers
-abbrev pub billed_told : Billed → Outcome Bill
-billed_told (B.Bill net total) = accepted (record { net = net; total = total })
-billed_told (B.Refused r) = refusal_told r

@@ -1,7 +1,9 @@
 // The bill for a log.
 #![tactic(auto)]
 
+mod amounts;
 mod billing;
 
-pub use billing::{Billed, bill, bill_text};
-pub use counting::{Counted, LineCounts, count_line, count_text, no_lines};
+pub use amounts::Bill;
+pub use billing::{bill, bill_text};
+pub use counting::{LineCounts, count_line, count_text, no_lines};

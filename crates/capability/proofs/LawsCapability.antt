@@ -3,23 +3,20 @@ use Prim.Native.Nat.{ℕ, zero, suc, ◌+◌, ◌-◌, ◌*◌, ◌≤◌, ◌<�
 use mathlib.Core.Path.{◌≡◌, refl, sym}
 use mathlib.Core.Bool.{Bool, true, false, ◌||◌, beq}
 use mathlib.Core.List.{List, [], ◌∷◌, ◌++◌}
-use mathlib.Core.Option.{Option, none, some, Option-elim}
 use native.Mathlib.Omega.{arith}
 use native.Mathlib.Numerals.{add-one}
 use native.Mathlib.Nat.{sub-zero}
 use lib.Dec.{eqb, lit≤, lit<}
 use lib.ListN.{length, take, drop, get_or, set, drop_of_length-le}
-use lib.Seq.{drop-cons, get_or-take, length-take-le, take-suc-set}
+use lib.Seq.{drop-cons, length-take-le, take-suc-set}
 use Rattle.base.specs.Outcome.{Outcome, refused, pick}
 use Rattle.reading.specs.Items.{item_at}
 use Rattle.reading.proofs.LawsItems.{walk_fixed, own_fixed}
 use Rattle.reading.proofs.LawsReading.{OneLength, one_length, steady_counted, Whole, Causes, causes, whole_accepted, whole_19, whole_pick, whole_on}
 use Rattle.range.specs.declared.range.AmbientRange.{AmbientRange}
-use Rattle.capability.specs.Capability.{Capability, capability_told, capability_report, capability_kind, elements, heard, ranges_from, ranges_of, blank, held, Reported, capability_of, element_of, element_told}
-use Rattle.capability.specs.declared.capability.CapabilityAnswer.TheVariants.{Kind}
+use Rattle.capability.specs.Capability.{if_range, Capability, capability_told, capability_report, capability_kind, elements, heard, ranges_from, ranges_of, blank, held, Reported, capability_of, element_of}
 use Rattle.capability.specs.declared.capability.NoiseCapability.{NoiseCapability}
-use Rattle.capability.specs.declared.capability.Element.{Element}
-use Rattle.capability.specs.declared.capability.Element.TheVariants.{Range, Bad}
+use Rattle.std.specs.Prelude.{Option, Some, None, Ok}
 
 -- the places hold so many ranges, two of them every voice value, and are blank behind them
 pub data Held : List AmbientRange → ℕ → Type 0 where
@@ -58,19 +55,12 @@ holds (one r) = refl
 holds (two r s d) = refl
 
 -- the search for a voice value, from place k on
-module _ {rs : List AmbientRange} {i : ℕ} (held : Held rs i) (v : Bool) (k : ℕ) where
-  seen : length (take i rs) ≡ i
-  seen = length-take-le i rs (omega (arith, places held))
+module _ (rs : List AmbientRange) (v : Bool) (k : ℕ) where
+  pub heard_here : k < length rs → (d : AmbientRange) → beq (get_or rs k d).voice v ≡ true → heard v (drop k rs) ≡ true
+  heard_here below d h = rw (drop-cons rs k d below, h)
 
-  module _ (below : k < i) (d : AmbientRange) where
-    pub heard_not : beq (get_or rs k d).voice v ≡ false → heard v (drop (k + 1) (take i rs)) ≡ heard v (drop k (take i rs))
-    heard_not h = rw (add-one, drop-cons (take i rs) k d (rw seen below), get_or-take i rs k d below, h)
-
-    pub heard_here : beq (get_or rs k d).voice v ≡ true → heard v (drop k (take i rs)) ≡ true
-    heard_here h = rw (drop-cons (take i rs) k d (rw seen below), get_or-take i rs k d below, h)
-
-  pub heard_none : i ≤ k → heard v (drop k (take i rs)) ≡ false
-  heard_none h = rw (drop_of_length-le (take i rs) {i = k} (rw seen h))
+  pub heard_none : length rs ≤ k → heard v (drop k rs) ≡ false
+  heard_none h = rw (drop_of_length-le rs {i = k} h)
 
 -- the elements before i are read: what is left, from here, gives what the whole gives
 pub record SoFar (p : List ℕ) (count : ℕ) (rs : List AmbientRange) (i : ℕ) : Type 0 where
@@ -83,7 +73,7 @@ begun p count e = rw e (record { within = omega arith; held = empty; rest = rw (
 
 module _ {p : List ℕ} {count : ℕ} {rs : List AmbientRange} {i : ℕ} (so : SoFar p count rs i) where
   -- all elements are read
-  pub reported : (kind : ℕ) → count ≤ i → Reported (record { answer = Kind kind; report = record { ranges = rs; count = count } }) (ranges_of p kind count)
+  pub reported : (kind : ℕ) → count ≤ i → Reported (record { answer = Ok kind; report = record { ranges = rs; count = count } }) (ranges_of p kind count)
   unfolding ranges_from
   reported kind h =
       let e : i ≡ count = omega arith in
@@ -97,18 +87,18 @@ module _ {p : List ℕ} {count : ℕ} {rs : List AmbientRange} {i : ℕ} (so : S
     one_more : count - i ≡ suc (count - (i + 1))
     one_more = omega arith
 
-    module _ {e : Element} (told : element_told e ≡ element_of p (3 + 4 * i)) where
-      pub not_range : e ≡ Bad → ranges_from p [] count ≡ refused 19 []
-      unfolding ranges_from Option-elim
+    module _ {e : (Option AmbientRange)} (told : e ≡ element_of p (3 + 4 * i)) where
+      pub not_range : e ≡ None → ranges_from p [] count ≡ refused 19 []
+      unfolding ranges_from
       not_range b = rw (← so.rest, one_more, length_seen, walk_fixed 4 p i 3, ← told, b)
 
-      module _ {r : AmbientRange} (b : e ≡ Range r) where
+      module _ {r : AmbientRange} (b : e ≡ Some r) where
         pub twice : heard r.voice (take i rs) ≡ true → ranges_from p [] count ≡ refused 19 []
-        unfolding ranges_from Option-elim
+        unfolding ranges_from
         twice h = rw (← so.rest, one_more, length_seen, walk_fixed 4 p i 3, ← told, b, h)
 
         pub next : heard r.voice (take i rs) ≡ false → SoFar p count (set rs i r) (i + 1)
-        unfolding ranges_from Option-elim
+        unfolding ranges_from
         next h = record {
           within = omega arith;
           held = more r so.held h;
@@ -124,14 +114,14 @@ unfolding capability_of
 capability_length = one_length _ _ _ (steady_counted 2 (own_fixed 4) 0)
 
 ranges_whole : (p : List ℕ) (n : ℕ) (seen : List AmbientRange) → Whole (ranges_from p seen n)
-unfolding ranges_from Option-elim
+unfolding ranges_from
 ranges_whole p zero seen = whole_accepted seen
 ranges_whole p (suc n) seen = go (λ r. ranges_whole p n (seen ++ r ∷ [])) (element_of p (item_at (elements p) p (length seen)))
   where
     go : ((r : AmbientRange) → Whole (ranges_from p (seen ++ r ∷ []) n)) → (o : Option AmbientRange)
-        → Whole (Option-elim o (refused 19 []) (λ r. pick (heard r.voice seen) (refused 19 []) (ranges_from p (seen ++ r ∷ []) n)))
-    go rest none = whole_19
-    go rest (some r) = whole_pick (heard r.voice seen) whole_19 (rest r)
+        → Whole (if_range o (λ r. pick (heard r.voice seen) (refused 19 []) (ranges_from p (seen ++ r ∷ []) n)))
+    go rest None = whole_19
+    go rest (Some r) = whole_pick (heard r.voice seen) whole_19 (rest r)
 
 pub capability_causes : Causes capability_kind elements capability_of
 unfolding capability_of

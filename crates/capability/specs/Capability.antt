@@ -1,18 +1,15 @@
 -- 01, "Messages and decoders": `decode_noise_capability`.
-use Rattle.std.specs.Prelude.{ℕ, zero, suc, ◌+◌, Bool, false, ◌&&◌, ◌||◌, not, ◌≡◌, List, [], ◌∷◌, ◌++◌, eqb, leb, length, get_or, take, drop}
+use Rattle.std.specs.Prelude.{ℕ, zero, suc, ◌+◌, Bool, false, ◌&&◌, ◌||◌, not, ◌≡◌, List, [], ◌∷◌, ◌++◌, eqb, leb, length, get_or, take, drop, Option, Result, Some, None, Ok, Err}
 use Rattle.std.specs.Bool.{beq}
-use Rattle.std.proofs.Math.Option.{Option, none, some, Option-elim}
 use Rattle.base.specs.Outcome.{Outcome, accepted, refused, pick, on_accepted}
 use Rattle.base.specs.Refusal.{refusal_told}
 use Rattle.reading.specs.Message.{kind_of}
 use Rattle.reading.specs.Items.{Items, fixed, counted, item_at}
 use Rattle.reading.specs.Reading.{reading_of}
 use Rattle.range.specs.declared.range.AmbientRange.{AmbientRange}
-use Rattle.capability.specs.declared.capability.CapabilityAnswer.{CapabilityAnswer}
-use Rattle.capability.specs.declared.capability.CapabilityAnswer.TheVariants.{Kind, Refused}
 use Rattle.capability.specs.declared.capability.CapabilityReport.{CapabilityReport}
 use Rattle.capability.specs.declared.capability.NoiseCapability.{NoiseCapability}
-use Rattle.capability.specs.declared.capability.Element.{Element}
+use Rattle.base.specs.declared.refusal.Refusal.{Refusal}
 
 -- the kind, and the ranges in order
 pub record Capability : Type 0 where
@@ -20,9 +17,9 @@ pub record Capability : Type 0 where
   pub ranges : List AmbientRange
 
 -- the answer with the ranges beside it
-abbrev pub answer_told : CapabilityAnswer → List AmbientRange → Outcome Capability
-answer_told (Kind k) ranges = accepted (record { kind = k; ranges = ranges })
-answer_told (Refused r) ranges = refusal_told r
+abbrev pub answer_told : Result ℕ Refusal → List AmbientRange → Outcome Capability
+answer_told (Ok k) ranges = accepted (record { kind = k; ranges = ranges })
+answer_told (Err r) ranges = refusal_told r
 
 -- the ranges are the report's first `count`
 abbrev pub capability_told : NoiseCapability → Outcome Capability
@@ -36,12 +33,8 @@ capability_kind k = leb 0x13 k && leb k 0x19 || eqb k 0x22
 unfoldable pub element_of : List ℕ → (at : ℕ) → Option AmbientRange
 element_of p at =
     pick (leb (get_or p at 0) 0x01 && leb (get_or p (at + 1) 0) (get_or p (at + 2) 0) && not (eqb (get_or p (at + 3) 0) 0))
-    (some (record { voice = eqb (get_or p at 0) 0x01; min = get_or p (at + 1) 0; max = get_or p (at + 2) 0; step = get_or p (at + 3) 0 }))
-    none
-
-abbrev pub element_told : Element → Option AmbientRange
-element_told (Element.Range r) = some r
-element_told Element.Bad = none
+    (Some (record { voice = eqb (get_or p at 0) 0x01; min = get_or p (at + 1) 0; max = get_or p (at + 2) 0; step = get_or p (at + 3) 0 }))
+    None
 
 -- whether a range of this voice value is there already
 abbrev pub heard : Bool → List AmbientRange → Bool
@@ -52,11 +45,16 @@ heard voice (r ∷ rs) = beq r.voice voice || heard voice rs
 abbrev pub elements : List ℕ → Items
 elements = counted 2 (fixed 4) 0
 
+-- an element that is no range is 19
+abbrev pub if_range : Option AmbientRange → (AmbientRange → Outcome (List AmbientRange)) → Outcome (List AmbientRange)
+if_range None f = refused 19 []
+if_range (Some r) f = f r
+
 -- "no voice value twice": the ranges seen, and so many elements more
 unfoldable pub ranges_from : List ℕ → (seen : List AmbientRange) → ℕ → Outcome (List AmbientRange)
 ranges_from p seen zero = accepted seen
 ranges_from p seen (suc left) =
-    Option-elim (element_of p (item_at (elements p) p (length seen))) (refused 19 [])
+    if_range (element_of p (item_at (elements p) p (length seen)))
     (λ r. pick (heard r.voice seen) (refused 19 []) (ranges_from p (seen ++ r ∷ []) left))
 
 -- the kind with its ranges

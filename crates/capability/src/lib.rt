@@ -3,7 +3,5 @@
 
 mod capability;
 
-pub use capability::{
-    CapabilityAnswer, CapabilityReport, NoiseCapability, decode_noise_capability,
-};
-pub use range::{Admitted, AmbientRange, Narrowed};
+pub use capability::{CapabilityReport, NoiseCapability, decode_noise_capability};
+pub use range::AmbientRange;

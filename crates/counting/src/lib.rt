@@ -3,4 +3,4 @@
 
 mod counting;
 
-pub use counting::{Counted, LineCounts, count_line, count_text, no_lines};
+pub use counting::{LineCounts, count_line, count_text, no_lines};

@@ -1,24 +1,25 @@
 -- What a take leaves of the held bytes, and how it agrees with the spans of the stream.
-use Prim.Native.Nat.{ℕ, suc, ◌+◌, ◌-◌, ◌≤◌}
+use Prim.Native.Nat.{ℕ, suc, ◌+◌, ◌-◌, ◌<◌, ◌≤◌}
 use mathlib.Core.Path.{◌≡◌, refl, sym, ap, subst, ◌∙◌}
 use mathlib.Core.Bool.{Bool, true, false}
 use mathlib.Core.List.{List, [], ◌∷◌, ◌++◌, append_assoc}
-use mathlib.Core.Option.{Option, none, some}
 use native.Mathlib.Nat.{add-zero}
 use native.Mathlib.Omega.{arith}
 use lib.Dec.{ltb}
 use lib.ListN.{length, take, drop, length-append, take-append-drop}
 use lib.Seq.{drop-append_seam, drop-length, drop_at, append_snoc}
-use borrow.Author.Tests.{ltb-true, ltb-false}
+use borrow.Author.Tests.{ltb-true, ltb-false, lt-ltb, le-ltb}
 use Rattle.base.specs.Outcome.{pick}
 use Rattle.held.specs.Spans.{START, END, outside, inside, after, spans}
-use Rattle.held.specs.Search.{Seen, no_start, no_end, both, seen, span_of, Spot, spot_by, spot_of, sight_by, sight_of}
+use Rattle.held.specs.Search.{Seen, no_start, no_end, both, seen, span_of, spot_by, spot_of, sight_by, sight_of}
 use Rattle.held.specs.declared.search.Sight.{Sight}
 use Rattle.held.specs.declared.search.Sight.TheVariants.{NoStart, NoEnd, Both}
 use Rattle.held.proofs.LawsSearch.{Free, free_after, Sees, sees, sight_within, Within}
 use Rattle.held.proofs.LawsSpans.{spans_within, Holds, holds, Phase, in_step, lost}
 use Rattle.cutting.specs.Cutting.{taken_by, taken_of, moving, goes_of, keeps_of, is_span, cut_of}
 use Rattle.cutting.specs.declared.deciding.Cut.{Cut}
+use Rattle.std.specs.Prelude.{Option, Some, None}
+use Rattle.std.specs.Bool.{then_some}
 
 -- the code's cut, by the sight
 abbrev pub cut_by : ℕ → ℕ → Sight → Cut
@@ -26,17 +27,36 @@ cut_by limit n NoStart = record { dropped = n; handed = 0; span = false }
 cut_by limit n (NoEnd at) = record { dropped = pick (ltb limit (n - at)) n at; handed = 0; span = false }
 cut_by limit n (Both at len) = record { dropped = at; handed = len; span = true }
 
-pub cut_sight : (limit : ℕ) (held : List ℕ) → cut_by limit (length held) (sight_of held) ≡ cut_of limit held
+pub cut_sight : (limit : ℕ) (held : List ℕ) (x : Sight) → x ≡ sight_of held → cut_by limit (length held) x ≡ cut_of limit held
 unfolding taken_of
-cut_sight limit held = go (seen held) (sees held)
+cut_sight limit held x e = rw e (go (seen held) (sees held))
   where
-    go : (x : Seen) → Sees held x
-        → let t = taken_by limit (length held) x in cut_by limit (length held) (sight_by x) ≡ record { dropped = (moving t).dropped; handed = (moving t).handed; span = is_span t.span }
+    go : (y : Seen) → Sees held y
+        → let t = taken_by limit (length held) y in cut_by limit (length held) (sight_by y) ≡ record { dropped = (moving t).dropped; handed = (moving t).handed; span = is_span t.span }
     go no_start f = refl
     go (no_end before rest) f =
         let n : length held - length before ≡ suc (length rest) = omega (arith, simp length-append at (ap length f.0)) in
         rw n
     go (both before between rest) f = refl
+
+-- one for each return of the code
+module _ (limit : ℕ) (held : List ℕ) where
+  pub cut_no_start : NoStart ≡ sight_of held → record { dropped = length held; handed = 0; span = false } ≡ cut_of limit held
+  cut_no_start e = cut_sight limit held NoStart e
+
+  pub cut_long : (at : ℕ) → NoEnd at ≡ sight_of held → limit < length held - at → record { dropped = length held; handed = 0; span = false } ≡ cut_of limit held
+  cut_long at e h = rw (lt-ltb limit (length held - at) h) at (cut_sight limit held (NoEnd at) e)
+
+  pub cut_short : (at : ℕ) → NoEnd at ≡ sight_of held → length held - at ≤ limit → record { dropped = at; handed = 0; span = false } ≡ cut_of limit held
+  cut_short at e h = rw (le-ltb limit (length held - at) h) at (cut_sight limit held (NoEnd at) e)
+
+  pub cut_both : (at len : ℕ) → Both at len ≡ sight_of held → record { dropped = at; handed = len; span = true } ≡ cut_of limit held
+  cut_both at len e = cut_sight limit held (Both at len) e
+
+pub no_end_within : (held : List ℕ) (at : ℕ) → NoEnd at ≡ sight_of held → at ≤ length held
+no_end_within held at e = rw (← e) at (sight_within held)
+
+pub ruleset cuts = (no_end_within, cut_no_start, cut_long, cut_short, cut_both)
 
 -- what goes is held
 pub goes_within : (limit : ℕ) (held : List ℕ) → goes_of limit held ≤ length held
@@ -53,15 +73,11 @@ goes_within limit held = go (seen held) (sight_within held)
     go (both before between rest) k = k
 
 -- where the span stands, by what goes
-abbrev pub spot_if : Bool → (at len : ℕ) → Option Spot
-spot_if false at len = none
-spot_if true at len = some (record { at = at; len = len })
-
-pub spot_cut : (limit : ℕ) (held : List ℕ) → let c = cut_of limit held in spot_of held ≡ spot_if c.span c.dropped c.handed
+pub spot_cut : (limit : ℕ) (held : List ℕ) → let c = cut_of limit held in then_some c.span (record { at = c.dropped; len = c.handed }) ≡ spot_of held
 unfolding taken_of
 spot_cut limit held = go (seen held)
   where
-    go : (x : Seen) → let t = taken_by limit (length held) x in spot_by x ≡ spot_if (is_span t.span) (moving t).dropped (moving t).handed
+    go : (x : Seen) → let t = taken_by limit (length held) x in then_some (is_span t.span) (record { at = (moving t).dropped; len = (moving t).handed }) ≡ spot_by x
     go no_start = refl
     go (no_end before rest) = refl
     go (both before between rest) = refl
@@ -103,8 +119,8 @@ keeps_limit limit held = rw (keeps_seen limit held) (go (seen held))
 
 -- what a take under a limit not below the bound does to the phase of a stream, by its answer
 abbrev pub Takes : (bound : ℕ) → List ℕ → List (List ℕ) → Option (List ℕ) → List ℕ → Type 0
-Takes bound a left none keeps = (left ≡ []) × Phase bound a keeps []
-Takes bound a left (some s) keeps = (more : List (List ℕ)) × (left ≡ s ∷ more) × Phase bound a keeps more
+Takes bound a left None keeps = (left ≡ []) × Phase bound a keeps []
+Takes bound a left (Some s) keeps = (more : List (List ℕ)) × (left ≡ s ∷ more) × Phase bound a keeps more
 
 module _ (bound limit : ℕ) (above : bound ≤ limit) (a h : List ℕ) where
   -- too long from START on, and cleared; or it stays

@@ -1,24 +1,21 @@
 -- The number that a text of decimal digits stands for, for the argument of a program (C-18, C-19).
-use Rattle.std.specs.Prelude.{ℕ, ◌+◌, ◌*◌, min, List, [], ◌∷◌, ltb}
-use Rattle.std.proofs.Math.Option.{Option, none, some}
+use Rattle.std.specs.Prelude.{ℕ, ◌+◌, ◌*◌, min, List, [], ◌∷◌, ltb, Option, Some, None, Result, Ok, Err}
 use Rattle.base.specs.Outcome.{pick}
 use Rattle.digits.specs.Digits.{decimal_value}
-use Rattle.decimal.specs.declared.decimal.Decimal.{Decimal}
-use Rattle.decimal.specs.declared.decimal.Decimal.TheVariants.{Number, NotANumber}
-use Rattle.decimal.specs.declared.decimal.Argument.{Argument}
-use Rattle.decimal.specs.declared.decimal.Argument.TheVariants as A
+use Rattle.decimal.specs.declared.decimal.ArgumentError.{ArgumentError}
+use Rattle.decimal.specs.declared.decimal.ArgumentError.TheVariants.{Missing, NotANumber, TooMany}
 
 abbrev pub with_digit : (n digit : ℕ) → ℕ
 with_digit n digit = n * 10 + digit
 
 -- the number with more digits behind it; none where a character is no digit
 unfoldable pub number_from : ℕ → List ℕ → Option ℕ
-number_from n [] = some n
-number_from n (c ∷ cs) = pick (ltb (decimal_value c) 10) (number_from (with_digit n (decimal_value c)) cs) none
+number_from n [] = Some n
+number_from n (c ∷ cs) = pick (ltb (decimal_value c) 10) (number_from (with_digit n (decimal_value c)) cs) None
 
 -- no digits are no number
 unfoldable pub number_of : List ℕ → Option ℕ
-number_of [] = none
+number_of [] = None
 number_of (c ∷ cs) = number_from 0 (c ∷ cs)
 
 abbrev pub GREATEST : ℕ
@@ -29,17 +26,13 @@ abbrev pub capped : ℕ → ℕ
 capped n = min n GREATEST
 
 abbrev pub told_number : Option ℕ → Option ℕ
-told_number none = none
-told_number (some n) = some (capped n)
+told_number None = None
+told_number (Some n) = Some (capped n)
 
-abbrev pub decimal_told : Decimal → Option ℕ
-decimal_told (Number n) = some n
-decimal_told NotANumber = none
-
-abbrev pub argument_by : Option ℕ → Argument
-argument_by none = A.NotANumber
-argument_by (some n) = A.Number n
+abbrev pub argument_by : Option ℕ → Result ℕ ArgumentError
+argument_by None = Err NotANumber
+argument_by (Some n) = Ok n
 
 -- the program's name and one argument more, which is a number
-unfoldable pub argument_of : (count : ℕ) → List ℕ → Argument
-argument_of count text = pick (ltb count 2) A.Missing (pick (ltb 2 count) A.TooMany (argument_by (told_number (number_of text))))
+unfoldable pub argument_of : (count : ℕ) → List ℕ → Result ℕ ArgumentError
+argument_of count text = pick (ltb count 2) (Err Missing) (pick (ltb 2 count) (Err TooMany) (argument_by (told_number (number_of text))))

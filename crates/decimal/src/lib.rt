@@ -3,4 +3,4 @@
 
 mod decimal;
 
-pub use decimal::{Argument, Decimal, number_argument, read_decimal};
+pub use decimal::{ArgumentError, number_argument, read_decimal};

@@ -3,16 +3,17 @@ use Prim.Native.Nat.{ℕ, zero, suc, ◌+◌, ◌-◌, ◌≤◌, ◌<◌}
 use mathlib.Core.Path.{◌≡◌, refl, sym, ap, ◌∙◌}
 use mathlib.Core.Bool.{Bool, true, false}
 use mathlib.Core.List.{List, [], ◌∷◌}
-use mathlib.Core.Option.{Option, none, some}
 use native.Mathlib.Nat.{zero-add, add_assoc}
 use native.Mathlib.Omega.{arith}
-use lib.ListN.{length, drop, length-drop}
+use lib.ListN.{length, take, drop, length-drop}
 use lib.Seq.{drop-drop}
 use Rattle.base.specs.Outcome.{Outcome, accepted, refused}
 use Rattle.held.specs.Going.{let_go}
 use Rattle.held.specs.Search.{Seen, no_start, no_end, both, seen}
 use Rattle.held.proofs.LawsSearch.{Sees, sees, span_length}
-use Rattle.cutting.specs.Cutting.{taken_by, taken_of, moved_of, goes_of, keeps_of, is_span, plus}
+use Rattle.cutting.specs.Cutting.{taken_by, taken_of, moved_of, goes_of, keeps_of, is_span, plus, cut_of}
+use Rattle.cutting.specs.declared.deciding.Cut.{Cut}
+use Rattle.std.proofs.lemmas.List.{take_rest}
 use Rattle.cutting.specs.declared.deciding.Moved.{Moved}
 use Rattle.cutting.proofs.LawsCutting.{goes_within, keeps_by, keeps_seen, keeps_limit}
 use Rattle.scanner.specs.Scanner.{Effect, holding, too_far, refuses, counted_of, counting, held_of, gone}
@@ -21,19 +22,20 @@ use Rattle.scanner.specs.declared.scanner.Scanner.{Scanner}
 use Rattle.scanner.proofs.LawsScanner.{fits_near, near_fits, counts, counts_not, held_length, gone_length, held_gone}
 use Rattle.scanner.proofs.LawsTaking.{take_far, take_near, take_refused}
 use Rattle.draining.specs.Draining.{takes_by, takes_from, takes, drain_by, drain_call, drained_by, drained_from, drained_of}
+use Rattle.std.specs.Prelude.{Option, Some, None}
 
 -- a span that goes leaves fewer bytes
-pub span_shorter : (limit : ℕ) (held : List ℕ) {span : List ℕ} → (taken_of limit held).span ≡ some span → length (keeps_of limit held) < length held
+pub span_shorter : (limit : ℕ) (held : List ℕ) {span : List ℕ} → (taken_of limit held).span ≡ Some span → length (keeps_of limit held) < length held
 unfolding taken_of
 span_shorter limit held {span} e = rw (keeps_seen limit held) (go (seen held) (sees held) e)
   where
-    go : (x : Seen) → Sees held x → (taken_by limit (length held) x).span ≡ some span → length (keeps_by limit x) < length held
+    go : (x : Seen) → Sees held x → (taken_by limit (length held) x).span ≡ Some span → length (keeps_by limit x) < length held
     go no_start f e = let z : ◌≡◌ {A = ℕ} 0 1 = cc in absurd (omega arith)
     go (no_end before rest) f e = let z : ◌≡◌ {A = ℕ} 0 1 = cc in absurd (omega arith)
     go (both before between rest) f e = omega (arith, ap length f.0, span_length before between rest)
 
 -- of no bytes no span goes
-no_span : (limit : ℕ) → (taken_of limit []).span ≡ none
+no_span : (limit : ℕ) → (taken_of limit []).span ≡ None
 unfolding taken_of seen
 no_span limit = refl
 
@@ -44,8 +46,8 @@ drained_within (suc n) limit held = go (taken_of limit held).span (drained_withi
   where
     go : (o : Option (List ℕ)) → (let m = drained_from n limit (keeps_of limit held) in (m.pushed ≡ 0) × (m.dropped + m.handed ≤ length (keeps_of limit held)))
         → let m = drained_by o (moved_of limit held) (drained_from n limit (keeps_of limit held)) in (m.pushed ≡ 0) × (m.dropped + m.handed ≤ length held)
-    go none k = (refl, omega (arith, goes_within limit held))
-    go (some span) k = (omega (arith, k.0), omega (arith, k.1, goes_within limit held, length-drop (goes_of limit held) held))
+    go None k = (refl, omega (arith, goes_within limit held))
+    go (Some span) k = (omega (arith, k.0), omega (arith, k.1, goes_within limit held, length-drop (goes_of limit held) held))
 
 pub goes_drained : (limit : ℕ) (held : List ℕ) → let m = drained_of limit held in (m.pushed ≡ 0) × (m.dropped + m.handed ≤ length held)
 unfolding drained_of
@@ -60,8 +62,8 @@ drained_keeps (suc n) limit held h = go (taken_of limit held).span refl (drained
     go : (o : Option (List ℕ)) → (taken_of limit held).span ≡ o
         → (length (keeps_of limit held) ≤ n → let m = drained_from n limit (keeps_of limit held) in length (drop (m.dropped + m.handed) (keeps_of limit held)) ≤ limit)
         → let m = drained_by o (moved_of limit held) (drained_from n limit (keeps_of limit held)) in length (drop (m.dropped + m.handed) held) ≤ limit
-    go none e k = keeps_limit limit held (ap is_span e)
-    go (some span) e k =
+    go None e k = keeps_limit limit held (ap is_span e)
+    go (Some span) e k =
         let b = drained_from n limit (keeps_of limit held) in
         omega (arith, k (omega (arith, span_shorter limit held e)), length-drop (b.dropped + b.handed) (keeps_of limit held), length-drop (goes_of limit held) held, length-drop ((moved_of limit held).dropped + b.dropped + ((moved_of limit held).handed + b.handed)) held)
 
@@ -158,8 +160,8 @@ drains (suc n) s store held e h = go (taken_of s.limit held).span refl (drains n
   where
     go : (o : Option (List ℕ)) → (taken_of s.limit held).span ≡ o → Drains n
         → let m = drained_by o (moved_of s.limit held) (drained_from n s.limit (keeps_of s.limit held)) in Ends s store held m (takes_from (suc n) s store) (too_far s m)
-    go none q ih = rw (stops n s store held e (ap is_span q)) (ends_take s store held e (ap is_span q))
-    go (some span) q ih = behind n ih s store held e (omega (arith, span_shorter s.limit held q)) (ap is_span q)
+    go None q ih = rw (stops n s store held e (ap is_span q)) (ends_take s store held e (ap is_span q))
+    go (Some span) q ih = behind n ih s store held e (omega (arith, span_shorter s.limit held q)) (ap is_span q)
 
 -- past 1 to 3: 27, or all of them at once
 module _ (s : Scanner) (store held : List ℕ) (e : held_of s store ≡ accepted held) where
@@ -219,7 +221,7 @@ Going limit held dropped handed =
     (k : ℕ) × (length held ≤ dropped + handed + k) × (drained_from (length held) limit held ≡ plus (passed dropped handed) (drained_from k limit (drop (dropped + handed) held)))
 
 pub going_first : (limit : ℕ) (held : List ℕ) → Going limit held 0 0
-going_first limit held = (length held, omega arith, rw (zero-add, zero-add, zero-add))
+going_first limit held = (length held, omega arith, simp zero-add)
 
 module _ (limit : ℕ) (held : List ℕ) (dropped handed : ℕ) (h : dropped + handed ≤ length held) where
   abbrev pub left : List ℕ
@@ -235,8 +237,8 @@ module _ (limit : ℕ) (held : List ℕ) (dropped handed : ℕ) (h : dropped + h
       go : (o : Option (List ℕ)) → (taken_of limit left).span ≡ o → is_span o ≡ false → (k : ℕ) → drained_from (length held) limit held ≡ plus (passed dropped handed) (drained_from k limit left)
           → passed (dropped + (moved_of limit left).dropped) (handed + (moved_of limit left).handed) ≡ drained_from (length held) limit held
       go o f q zero w = sym w
-      go none f q (suc k) w = sym (w ∙ ap (λ (o : Option (List ℕ)). plus (passed dropped handed) (drained_by o (moved_of limit left) (drained_from k limit (keeps_of limit left)))) f)
-      go (some span) f q (suc k) w = let z : ◌≡◌ {A = ℕ} 0 1 = cc in absurd (omega arith)
+      go None f q (suc k) w = sym (w ∙ ap (λ (o : Option (List ℕ)). plus (passed dropped handed) (drained_by o (moved_of limit left) (drained_from k limit (keeps_of limit left)))) f)
+      go (Some span) f q (suc k) w = let z : ◌≡◌ {A = ℕ} 0 1 = cc in absurd (omega arith)
 
   pub going_on : is_span (taken_of limit left).span ≡ true → Going limit held dropped handed
       → (dropped + handed < dropped + (moved_of limit left).dropped + (handed + (moved_of limit left).handed)) × Going limit held (dropped + (moved_of limit left).dropped) (handed + (moved_of limit left).handed)
@@ -245,9 +247,9 @@ module _ (limit : ℕ) (held : List ℕ) (dropped handed : ℕ) (h : dropped + h
       go : (o : Option (List ℕ)) → (taken_of limit left).span ≡ o → is_span o ≡ true → (k : ℕ) → length held ≤ dropped + handed + k
           → drained_from (length held) limit held ≡ plus (passed dropped handed) (drained_from k limit left)
           → (dropped + handed < dropped + (moved_of limit left).dropped + (handed + (moved_of limit left).handed)) × Going limit held (dropped + (moved_of limit left).dropped) (handed + (moved_of limit left).handed)
-      go none f q k l w = let z : ◌≡◌ {A = ℕ} 0 1 = cc in absurd (omega arith)
-      go (some span) f q zero l w = absurd (omega (arith, span_shorter limit left f, length-drop (dropped + handed) held))
-      go (some span) f q (suc k) l w =
+      go None f q k l w = let z : ◌≡◌ {A = ℕ} 0 1 = cc in absurd (omega arith)
+      go (Some span) f q zero l w = absurd (omega (arith, span_shorter limit left f, length-drop (dropped + handed) held))
+      go (Some span) f q (suc k) l w =
           let n = (moved_of limit left).dropped + (moved_of limit left).handed in
           let shorter : length (drop n left) < length left = span_shorter limit left f in
           let some_go : 0 < n = omega (arith, length-drop n left) in
@@ -257,3 +259,25 @@ module _ (limit : ℕ) (held : List ℕ) (dropped handed : ℕ) (h : dropped + h
             omega arith,
             (k, omega arith, v ∙ rw (← d, zero-add (0 + (drained_from k limit (keeps_of limit left)).pushed), add_assoc handed (moved_of limit left).handed (drained_from k limit (keeps_of limit left)).handed, add_assoc dropped (moved_of limit left).dropped (drained_from k limit (keeps_of limit left)).dropped)),
           )
+
+-- the cut, by the bytes behind what was passed
+module _ (limit : ℕ) (held : List ℕ) (dropped handed : ℕ) (h : dropped + handed ≤ length held) (x : Cut) (e : x ≡ cut_of limit (take (length held - (dropped + handed)) (drop (dropped + handed) held))) where
+  cut : x ≡ cut_of limit (drop (dropped + handed) held)
+  cut = rw (take_rest held (dropped + handed)) at e
+
+  pub cut_fits : dropped + x.dropped + (handed + x.handed) ≤ length held
+  cut_fits = rw cut (cut_within limit held dropped handed h)
+
+  pub cut_last : x.span ≡ false → Going limit held dropped handed → passed (dropped + x.dropped) (handed + x.handed) ≡ drained_of limit held
+  cut_last q g = rw cut (going_ends limit held dropped handed h (rw cut at q) g)
+
+  further_on : x.span ≡ true → Going limit held dropped handed → (dropped + handed < dropped + x.dropped + (handed + x.handed)) × Going limit held (dropped + x.dropped) (handed + x.handed)
+  further_on q g = rw cut (going_on limit held dropped handed h (rw cut at q) g)
+
+  pub cut_goes : x.span ≡ true → Going limit held dropped handed → dropped + handed < dropped + x.dropped + (handed + x.handed)
+  cut_goes q g = (further_on q g).0
+
+  pub cut_on : x.span ≡ true → Going limit held dropped handed → Going limit held (dropped + x.dropped) (handed + x.handed)
+  cut_on q g = (further_on q g).1
+
+pub ruleset cuts = (going_first, cut_fits, cut_last, cut_goes, cut_on)

@@ -1,6 +1,5 @@
 -- 02, C-17 and C-22: takes one after the other until one finds no span, and what they do together.
-use Rattle.std.specs.Prelude.{ℕ, zero, suc, Bool, true, false, List, length}
-use Rattle.std.proofs.Math.Option.{Option, none, some}
+use Rattle.std.specs.Prelude.{ℕ, zero, suc, Bool, true, false, List, length, Option, Some, None}
 use Rattle.base.specs.Outcome.{Outcome, accepted, refused}
 use Rattle.cutting.specs.Cutting.{taken_of, moved_of, keeps_of, plus}
 use Rattle.cutting.specs.declared.deciding.Moved.{Moved}
@@ -32,8 +31,8 @@ drain_call s store = drain_by (takes s store).answer (takes s store) s store
 
 -- what they move together: what the first one does, and where it hands over a span what those behind it do
 abbrev pub drained_by : Option (List ℕ) → (first behind : Moved) → Moved
-drained_by none first behind = first
-drained_by (some span) first behind = plus first behind
+drained_by None first behind = first
+drained_by (Some span) first behind = plus first behind
 
 abbrev pub drained_from : ℕ → (limit : ℕ) → List ℕ → Moved
 drained_from zero limit held = moved_of limit held

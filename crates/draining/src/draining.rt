@@ -1,18 +1,21 @@
 // A take moves all that stays, so that what all of them let go goes at once.
 ghost use Rattle.std.specs.Prelude.{◌≡◌};
-ghost use Rattle.scanner.specs.Taking.{take_told};
 ghost use Rattle.draining.specs.Draining.{drained_of, drain_call};
+ghost use Rattle.base.specs.Refusal.{outcome_of};
 
+use base::Refusal;
 use cutting::{Moved, decide};
 use held::let_go;
-use scanner::{Checked, Counted, Scanner, TakeAnswer, Taken, advance, check};
+use scanner::{Scanner, Taken, advance, check};
 
 // How many held bytes these takes drop, and how many go in spans.
+#[tactic(auto, using(crate::proofs::LawsDraining::cuts))]
 pub fn decide_all(held: &[u8], limit: usize) -> Moved
     ensures { result ≡ drained_of limit held.now }
 {
     let mut dropped = 0;
     let mut handed = 0;
+    // a `loop`: where a turn begins shows only behind the one before
     loop {
         let past = dropped + handed;
         let cut = decide(&held[past..], limit);
@@ -29,33 +32,27 @@ pub fn decide_all(held: &[u8], limit: usize) -> Moved
 }
 
 // All of the takes, or none where one would be refused.
-pub fn drain(scanner: Scanner, store: &mut [u8]) -> Taken
-    ensures answer_value { take_told result.answer ≡ (drain_call scanner store.old).answer }
+#[tactic(auto, using(scanner::proofs::LawsScanner::held_known, crate::proofs::LawsDraining::goes_held))]
+fn drain_lent(scanner: &mut Scanner, store: &mut [u8]) -> Result<bool, Refusal>
+    ensures result_value { outcome_of result ≡ (drain_call scanner.old store.old).answer }
+    ensures scanner_after { scanner.new ≡ (drain_call scanner.old store.old).scanner }
+    ensures store_after { store.new ≡ (drain_call scanner.old store.old).store }
+{
+    check(*scanner, store)?;
+    let count = scanner.count;
+    let moved = decide_all(&store[..count], scanner.limit);
+    let goes = moved.dropped + moved.handed;
+    *scanner = advance(*scanner, count - goes, moved)?;
+    let_go(store, count, goes);
+    Ok(false)
+}
+
+// The same, with the state by value.
+pub fn drain(mut scanner: Scanner, store: &mut [u8]) -> Taken
+    ensures answer_value { outcome_of result.answer ≡ (drain_call scanner store.old).answer }
     ensures scanner_value { result.scanner ≡ (drain_call scanner store.old).scanner }
     ensures store_after { store.new ≡ (drain_call scanner store.old).store }
 {
-    match check(scanner, store) {
-        Checked::Refused(r) => Taken {
-            answer: TakeAnswer::Refused(r),
-            scanner,
-        },
-        Checked::Fine => {
-            let count = scanner.count;
-            let moved = decide_all(&store[..count], scanner.limit);
-            let goes = moved.dropped + moved.handed;
-            match advance(scanner, count - goes, moved) {
-                Counted::Refused(r) => Taken {
-                    answer: TakeAnswer::Refused(r),
-                    scanner,
-                },
-                Counted::Next(next) => {
-                    let_go(store, count, goes);
-                    Taken {
-                        answer: TakeAnswer::Nothing,
-                        scanner: next,
-                    }
-                }
-            }
-        }
-    }
+    let answer = drain_lent(&mut scanner, store);
+    Taken { answer, scanner }
 }

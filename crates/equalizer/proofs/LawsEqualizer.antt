@@ -16,7 +16,8 @@ use Rattle.base.specs.Outcome.{Outcome, accepted, refused}
 use Rattle.reading.specs.Items.{fixed, counted}
 use Rattle.reading.proofs.LawsItems.{own_fixed}
 use Rattle.reading.proofs.LawsReading.{was_counted, OneLength, one_length, steady_counted, Causes, causes, whole_accepted}
-use Rattle.equalizer.specs.Equalizer.{EqReport, equalizer_of, steps_of, bias_of}
+use Rattle.equalizer.specs.Equalizer.{equalizer_of, steps_of, bias_of}
+use Rattle.equalizer.specs.declared.equalizer.EqReport.{EqReport}
 use Rattle.equalizer.specs.declared.equalizer.EqShape.{EqShape}
 use Rattle.equalizer.specs.declared.equalizer.EqShape.TheVariants.{ClearBassAndFive, TenBands, Unknown}
 

@@ -1,13 +1,14 @@
 // The equalizer's preset and steps, and what a step means.
 ghost use Rattle.std.specs.Prelude.{◌≡◌, pos, negsuc, ◌≤ℤ◌};
-ghost use Rattle.equalizer.specs.Equalizer.{eq_told, equalizer_of, steps_of, shape_of, bias_of, gain_of};
+ghost use Rattle.equalizer.specs.Equalizer.{equalizer_of, steps_of, shape_of, bias_of, gain_of};
+ghost use Rattle.base.specs.Refusal.{outcome_of};
 
 use frame::Refusal;
 
 #[derive(Clone, Copy)]
-pub enum EqAnswer {
-    Report { preset: u8, count: usize },
-    Refused(Refusal),
+pub struct EqReport {
+    pub preset: u8,
+    pub count: usize,
 }
 
 #[derive(Clone, Copy)]
@@ -17,26 +18,26 @@ pub enum EqShape {
     Unknown,
 }
 
-pub fn decode_equalizer(payload: &[u8]) -> EqAnswer
-    ensures { eq_told result ≡ equalizer_of payload.now }
+pub fn decode_equalizer(payload: &[u8]) -> Result<EqReport, Refusal>
+    ensures { outcome_of result ≡ equalizer_of payload.now }
 {
     if payload.len() < 2 {
-        return EqAnswer::Refused(Refusal::WrongKind);
+        return Err(Refusal::WrongKind);
     }
     if payload[1] != 0x00 {
-        return EqAnswer::Refused(Refusal::WrongKind);
+        return Err(Refusal::WrongKind);
     }
     if payload.len() < 4 {
-        return EqAnswer::Refused(Refusal::WrongLength);
+        return Err(Refusal::WrongLength);
     }
     let count = payload[3] as usize;
     if payload.len() - 4 != count {
-        return EqAnswer::Refused(Refusal::WrongLength);
+        return Err(Refusal::WrongLength);
     }
-    EqAnswer::Report {
+    Ok(EqReport {
         preset: payload[2],
         count,
-    }
+    })
 }
 
 // The steps, or nothing where the decoder refuses.
@@ -44,11 +45,13 @@ pub fn equalizer_steps(payload: &[u8]) -> &[u8]
     ensures { result.now ≡ steps_of payload.now }
 {
     match decode_equalizer(payload) {
-        EqAnswer::Report {
-            preset: _,
-            count: _,
-        } => &payload[4..],
-        EqAnswer::Refused(_) => &payload[..0],
+        Ok(
+            EqReport {
+                preset: _,
+                count: _,
+            },
+        ) => &payload[4..],
+        Err(_) => &payload[..0],
     }
 }
 

@@ -3,4 +3,4 @@
 
 mod equalizer;
 
-pub use equalizer::{EqAnswer, EqShape, decode_equalizer, equalizer_steps, gain};
+pub use equalizer::{EqReport, EqShape, decode_equalizer, equalizer_steps, gain};

@@ -1,8 +1,9 @@
 -- Laws of escaping. Assumes nothing.
+use Rattle.std.proofs.lemmas.List.{take_more}
 use Prim.Native.Nat.{ℕ, ◌+◌, ◌-◌, ◌*◌, ◌≤◌, ◌<◌}
 use mathlib.Core.Path.{◌≡◌, refl, sym, ap, ◌∙◌}
 use mathlib.Core.Logic.{◌⊎◌, inl, inr, ⊎_elim}
-use mathlib.Core.List.{List, [], ◌∷◌, ◌++◌, append_assoc}
+use mathlib.Core.List.{List, [], ◌∷◌, ◌++◌, append_assoc, append-nil}
 use native.Mathlib.Numerals.{add-one}
 use native.Mathlib.Omega.{arith}
 use lib.ListN.{length, take, drop, get_or, length-append, drop_of_length-le}
@@ -37,8 +38,16 @@ module _ (g : ℕ → List ℕ) where
   unfolding each_of
   each_step src i h = record { splits = rw (drop-cons src i 0, add-one) }
 
+  pub each_front : (rest xs more : List ℕ) → rest ≡ xs ++ more → Begins (each_of g rest) (each_of g xs) (each_of g more)
+  each_front rest xs more e = record { splits = ap (each_of g) e ∙ each_append xs more }
+
   pub each_part : (src : List ℕ) (i e : ℕ) → i ≤ e → Begins (each_of g (drop i src)) (each_of g (take (e - i) (drop i src))) (each_of g (drop e src))
-  each_part src i e h = record { splits = ap (each_of g) (part_begins src i e h).splits ∙ each_append (take (e - i) (drop i src)) (drop e src) }
+  each_part src i e h = each_front _ _ _ (part_begins src i e h).splits
+
+  pub each_none : (rest : List ℕ) → length rest ≡ 0 → each_of g rest ≡ []
+  unfolding each_of
+  each_none [] e = refl
+  each_none (_ ∷ _) e = absurd (omega arith)
 
   pub each_end : (src : List ℕ) (i : ℕ) → length src ≤ i → each_of g (drop i src) ≡ []
   unfolding each_of
@@ -66,13 +75,22 @@ pub plain : (b : ℕ) → (b < 0x3C) ⊎ (0x3F ≤ b) → escaped_byte b ≡ b �
 plain b (inl h) = plain_byte b (λ e. omega arith) (λ e. omega arith) (λ e. omega arith)
 plain b (inr h) = plain_byte b (λ e. omega arith) (λ e. omega arith) (λ e. omega arith)
 
-pub each_length : (g : ℕ → List ℕ) (src : List ℕ) (i : ℕ) → i < length src
-    → length (each_of g (drop i src)) ≡ length (g (get_or src i 0)) + length (each_of g (drop (i + 1) src))
-each_length g src i h = ap length (each_step g src i h).splits ∙ length-append (g (get_or src i 0)) (each_of g (drop (i + 1) src))
+-- the lengths of what two lists give, of what all bytes give, and of what the first i give
+pub escape_append : (xs ys : List ℕ) → length (escape_of (xs ++ ys)) ≡ length (escape_of xs) + length (escape_of ys)
+escape_append xs ys = ap length (each_append escaped_byte xs ys) ∙ length-append (escape_of xs) (escape_of ys)
 
-pub part_length : (g : ℕ → List ℕ) (src : List ℕ) (i e : ℕ) → i ≤ e
-    → length (each_of g (drop i src)) ≡ length (each_of g (take (e - i) (drop i src))) + length (each_of g (drop e src))
-part_length g src i e h = ap length (each_part g src i e h).splits ∙ length-append (each_of g (take (e - i) (drop i src))) (each_of g (drop e src))
+pub escape_width : (src : List ℕ) → length (escape_of src) ≤ 2 * length src
+escape_width = each_width escaped_byte escaped_width
+
+pub escape_none : length (escape_of []) ≡ 0
+unfolding each_of
+escape_none = refl
+
+pub escape_more : (src : List ℕ) (i : ℕ) → i < length src → length (escape_of (take (i + 1) src)) ≡ length (escape_of (take i src)) + length (escaped_byte (get_or src i 0))
+unfolding each_of
+escape_more src i h =
+    let b = get_or src i 0 in
+    rw (take_more src i 0 h, each_append escaped_byte (take i src) (b ∷ []), append-nil, length-append)
 
 one_or_two : (b : ℕ) → (escaped_byte b ≡ b ∷ []) ⊎ (length (escaped_byte b) ≡ 2)
 one_or_two = each_byte (λ b e. (e ≡ b ∷ []) ⊎ (length e ≡ 2)) (inr refl) (inr refl) (inr refl) (λ b _ _ _. inl refl)

@@ -1,10 +1,13 @@
 // Escaping keeps the markers out of a frame's body.
-ghost use Rattle.std.specs.Prelude.{◌≡◌, ◌+◌, ◌≤◌, ◌<◌, length, leb};
-ghost use Rattle.base.specs.Writing.{write_call, written_told};
+ghost use Rattle.std.specs.Prelude.{◌≡◌, ◌+◌, ◌-◌, ◌≤◌, ◌<◌, [], ◌∷◌, length, leb};
+ghost use Rattle.std.specs.Bool.{OnTrue};
+ghost use Rattle.base.specs.Outcome.{pick};
+ghost use Rattle.base.specs.Writing.{write_call};
 ghost use Rattle.base.specs.Stored.{Stored};
 ghost use Rattle.escaping.specs.Escaping.{escaped_byte, escape_of, unescape_call};
+ghost use Rattle.base.specs.Refusal.{outcome_of};
 
-use base::{Refusal, Written, block_end, wipe};
+use base::{Refusal, wipe};
 
 pub const START: u8 = 0x3E;
 
@@ -18,140 +21,133 @@ const BLOCK: usize = 32;
 // A count of the bytes of such a block fits a byte, so that many are counted at once.
 const COUNT_BLOCK: usize = 128;
 
+// Whether a byte is written as SENTRY and an escapee.
+#[tactic(auto, unfolding(crate::specs::Escaping::escaped_byte))]
+fn is_special(b: u8) -> bool
+    ensures form { escaped_byte b ≡ pick result (0x3D ∷ (b - 16) ∷ []) (b ∷ []) }
+    ensures high { OnTrue result (0x3C ≤ b) }
+{
+    matches!(b, END..=START)
+}
+
 // How many bytes of a block are to be escaped.
+#[tactic(auto, using(crate::proofs::LawsEscaping::escape_none, crate::proofs::LawsEscaping::escape_more))]
 fn special_in(block: &[u8]) -> u8
     requires { length block.now ≤ 255 }
     ensures { length (escape_of block.now) ≡ length block.now + result }
 {
     let mut n = 0u8;
-    let mut i = 0;
-    while i < block.len() {
-        let b = block[i];
-        i += 1;
-        match b {
-            0x3C..=0x3E => n += 1,
-            _ => {}
+    for &b in block {
+        if is_special(b) {
+            n += 1;
         }
     }
     n
 }
 
 // How many bytes the escaped form has.
+#[tactic(auto, using(crate::proofs::LawsEscaping::escape_none, crate::proofs::LawsEscaping::escape_append, crate::proofs::LawsEscaping::escape_width))]
 pub fn escaped_len(src: &[u8]) -> usize
     ensures { result ≡ length (escape_of src.now) }
 {
     let mut n = 0;
-    let mut i = 0;
-    while i < src.len() {
-        let end = block_end(i, src.len(), COUNT_BLOCK);
-        n += end - i + special_in(&src[i..end]) as usize;
-        i = end;
+    for block in src.chunks(COUNT_BLOCK) {
+        n += block.len() + usize::from(special_in(block));
     }
     n
 }
 
 // Whether the escaped form has at most `room` bytes. It has at most two for a byte, so that with room for those nothing is counted.
+#[tactic(auto, using(crate::proofs::LawsEscaping::escape_width))]
 pub fn escape_fits(src: &[u8], room: usize) -> bool
     ensures { result ≡ leb (length (escape_of src.now)) room }
 {
-    if src.len() <= room / 2 {
-        return true;
-    }
-    escaped_len(src) <= room
+    src.len() <= room / 2 || escaped_len(src) <= room
 }
 
 fn put_escaped(b: u8, out: &mut [u8], at: usize) -> usize
     requires { at + length (escaped_byte b) ≤ length out.old }
     ensures { Stored (escaped_byte b) out.old at out.new result }
 {
-    match b {
-        0x3C..=0x3E => {
-            out[at] = SENTRY;
-            out[at + 1] = b - 16;
-            at + 2
-        }
-        _ => {
-            out[at] = b;
-            at + 1
-        }
+    if is_special(b) {
+        out[at] = SENTRY;
+        out[at + 1] = b - 16;
+        at + 2
+    } else {
+        out[at] = b;
+        at + 1
     }
 }
 
-// The escaped form byte by byte, stored from `at` on; the place behind it.
+// What `escape_at` does with a short block: the escaped form byte by byte, stored from `at` on; the place behind it.
 fn put_each(src: &[u8], out: &mut [u8], at: usize) -> usize
     requires { at + length (escape_of src.now) ≤ length out.old }
     ensures { Stored (escape_of src.now) out.old at out.new result }
 {
     let mut next = at;
-    let mut i = 0;
-    while i < src.len() {
-        next = put_escaped(src[i], out, next);
-        i += 1;
+    for &b in src {
+        next = put_escaped(b, out, next);
     }
     next
 }
 
-// The bytes as they are.
+// The bytes as they are, one by one: a call that copies takes longer than a block this short.
 fn put_plain(src: &[u8], out: &mut [u8], at: usize) -> usize
     requires { at + length src.now ≤ length out.old }
     ensures { Stored src.now out.old at out.new result }
 {
-    let mut i = 0;
-    while i < src.len() {
-        out[at + i] = src[i];
-        i += 1;
+    for (i, &b) in src.iter().enumerate() {
+        out[at + i] = b;
     }
-    at + i
+    at + src.len()
 }
 
 // A block in which nothing is to be escaped is copied as a whole, unless it is too short to gain by it.
+#[tactic(auto, using(crate::proofs::LawsEscaping::no_longer))]
 fn put_block(block: &[u8], out: &mut [u8], at: usize) -> usize
     requires block_len_bound { length block.now ≤ 255 }
     requires block_in_bounds { at + length (escape_of block.now) ≤ length out.old }
     ensures { Stored (escape_of block.now) out.old at out.new result }
 {
-    if block.len() >= 16 {
-        if special_in(block) == 0 {
-            return put_plain(block, out, at);
-        }
+    if block.len() >= 16 && special_in(block) == 0 {
+        put_plain(block, out, at)
+    } else {
+        put_each(block, out, at)
     }
-    put_each(block, out, at)
 }
 
 // The escaped form, stored from `at` on; the place behind it.
-fn escape_at(src: &[u8], out: &mut [u8], at: usize) -> usize
+pub fn escape_at(src: &[u8], out: &mut [u8], at: usize) -> usize
     requires { at + length (escape_of src.now) ≤ length out.old }
     ensures { Stored (escape_of src.now) out.old at out.new result }
 {
     let mut next = at;
-    let mut i = 0;
-    while i < src.len() {
-        let end = block_end(i, src.len(), BLOCK);
-        next = put_block(&src[i..end], out, next);
-        i = end;
+    for block in src.chunks(BLOCK) {
+        next = put_block(block, out, next);
     }
     next
 }
 
-pub fn escape(src: &[u8], out: &mut [u8]) -> Written
-    ensures result_value { written_told result ≡ (write_call (escape_of src.now) out.old).answer }
+pub fn escape(src: &[u8], out: &mut [u8]) -> Result<usize, Refusal>
+    ensures result_value { outcome_of result ≡ (write_call (escape_of src.now) out.old).answer }
     ensures out_after { out.new ≡ (write_call (escape_of src.now) out.old).out }
 {
     if !escape_fits(src, out.len()) {
-        return Written::Refused(Refusal::OutputTooShort);
+        return Err(Refusal::OutputTooShort);
     }
-    Written::Bytes(escape_at(src, out, 0))
+    Ok(escape_at(src, out, 0))
 }
 
 // Undoes `escape`. Raw markers pass as they are.
-pub fn unescape(src: &[u8], out: &mut [u8]) -> Written
-    ensures result_value { written_told result ≡ (unescape_call src.now out.old).answer }
+pub fn unescape(src: &[u8], out: &mut [u8]) -> Result<usize, Refusal>
+    ensures result_value { outcome_of result ≡ (unescape_call src.now out.old).answer }
     ensures out_after { out.new ≡ (unescape_call src.now out.old).out }
 {
     if out.len() < src.len() {
-        return Written::Refused(Refusal::NoRoom);
+        return Err(Refusal::NoRoom);
     }
     let mut at = 0;
+    // an index: asking an iterator for each byte takes longer
     let mut i = 0;
     while i < src.len() {
         let b = src[i];
@@ -162,7 +158,7 @@ pub fn unescape(src: &[u8], out: &mut [u8]) -> Written
         } else {
             if src.len() <= i {
                 wipe(out);
-                return Written::Refused(Refusal::TrailingSentry);
+                return Err(Refusal::TrailingSentry);
             }
             let e = src[i];
             i += 1;
@@ -173,10 +169,10 @@ pub fn unescape(src: &[u8], out: &mut [u8]) -> Written
                 }
                 _ => {
                     wipe(out);
-                    return Written::Refused(Refusal::BadEscapee(e));
+                    return Err(Refusal::BadEscapee(e));
                 }
             }
         }
     }
-    Written::Bytes(at)
+    Ok(at)
 }

@@ -10,7 +10,7 @@ ghost use Rattle.heading.specs.Heading.{header_read};
 ghost use Rattle.telling.specs.Told.{status_of, numbers_of, told, only};
 ghost use Rattle.numbers.specs.Numbers.{type_number, header_numbers};
 
-use answers::{header_told, written_told};
+use answers::answer_told;
 use frame::DataType;
 
 #[unsafe(no_mangle)]
@@ -57,7 +57,7 @@ pub extern "C" fn mdr_escape(src: &[u8], out: &mut [u8], values: &mut [u64]) -> 
     ensures values_after { values.new ≡ told (numbers_of only (write_call (escape_of src.now) out.old).answer) values.old }
     ensures out_after { out.new ≡ (write_call (escape_of src.now) out.old).out }
 {
-    written_told(frame::escape(src, out), values)
+    answer_told(frame::escape(src, out), values)
 }
 
 #[unsafe(no_mangle)]
@@ -66,7 +66,7 @@ pub extern "C" fn mdr_unescape(src: &[u8], out: &mut [u8], values: &mut [u64]) -
     ensures values_after { values.new ≡ told (numbers_of only (unescape_call src.now out.old).answer) values.old }
     ensures out_after { out.new ≡ (unescape_call src.now out.old).out }
 {
-    written_told(frame::unescape(src, out), values)
+    answer_told(frame::unescape(src, out), values)
 }
 
 #[unsafe(no_mangle)]
@@ -81,7 +81,7 @@ pub extern "C" fn mdr_pack(
     ensures values_after { values.new ≡ told (numbers_of only (pack_call (from_wire data_type) seq payload.now out.old).answer) values.old }
     ensures out_after { out.new ≡ (pack_call (from_wire data_type) seq payload.now out.old).out }
 {
-    written_told(
+    answer_told(
         frame::pack(DataType::from_wire(data_type), seq, payload, out),
         values,
     )
@@ -93,7 +93,7 @@ pub extern "C" fn mdr_ack(seq: u8, out: &mut [u8], values: &mut [u64]) -> u8
     ensures values_after { values.new ≡ told (numbers_of only (ack_call seq out.old).answer) values.old }
     ensures out_after { out.new ≡ (ack_call seq out.old).out }
 {
-    written_told(frame::ack(seq, out), values)
+    answer_told(frame::ack(seq, out), values)
 }
 
 #[unsafe(no_mangle)]
@@ -102,7 +102,7 @@ pub extern "C" fn mdr_unpack(frame: &[u8], work: &mut [u8], values: &mut [u64]) 
     ensures values_after { values.new ≡ told (numbers_of header_numbers (unpack_call frame.now work.old).answer) values.old }
     ensures work_after { work.new ≡ (unpack_call frame.now work.old).work }
 {
-    header_told(frame::unpack(frame, work), values)
+    answer_told(frame::unpack(frame, work), values)
 }
 
 #[unsafe(no_mangle)]
@@ -110,5 +110,5 @@ pub extern "C" fn mdr_read_header(frame: &[u8], values: &mut [u64]) -> u8
     ensures value { result ≡ status_of (header_read frame.now) }
     ensures values_after { values.new ≡ told (numbers_of header_numbers (header_read frame.now)) values.old }
 {
-    header_told(frame::read_header(frame), values)
+    answer_told(frame::read_header(frame), values)
 }

@@ -9,22 +9,17 @@ ghost use Rattle.paired.specs.Paired.{paired_of, lookup_of};
 ghost use Rattle.masking.specs.Masked.{masked_of, masked_in};
 ghost use Rattle.text.specs.Text.{characters_of};
 ghost use Rattle.capability.specs.Capability.{capability_of};
-ghost use Rattle.range.specs.Range.{admits_of, admitted_told, within_of};
+ghost use Rattle.range.specs.Range.{admits_of, within_of};
 ghost use Rattle.equalizer.specs.Equalizer.{equalizer_of, steps_of, shape_of, bias_of, gain_of};
-ghost use Rattle.support.specs.Support.{check_of, support_call, support_told};
+ghost use Rattle.support.specs.Support.{check_of, support_call};
 ghost use Rattle.telling.specs.Told.{status_of, numbers_of, told, only};
 ghost use Rattle.numbers.specs.Numbers.{bit_numbers, message_numbers, battery_numbers, noise_numbers, capability_numbers, equalizer_numbers, character_numbers, device_numbers, setting_numbers, info_numbers, list_numbers, table_of, unvoiced, within_numbers, shape_number};
 
-use answers::characters_told;
-use capability::{Admitted, AmbientRange, CapabilityAnswer, Narrowed};
-use lists::{
-    EqAnswer, EqShape, SupportAnswer, SupportCheck, SupportFunction, Table,
-    decode_support_functions,
-};
-use numbers::{battery, byte_or, device, flag, noise, ranges, setting_info};
-use paired::{PairedDevices, PairedLookup};
-use payload::{BatteryAnswer, Message, NoiseAnswer, SettingAnswer, Split};
-use setting_info::SettingInfoAnswer;
+use answers::{Told, answer_told, characters_told};
+use capability::AmbientRange;
+use lists::{EqReport, EqShape, SupportFunction, Table, decode_support_functions};
+use numbers::ranges;
+use payload::Message;
 use telling::{refuse, tell};
 
 #[unsafe(no_mangle)]
@@ -32,15 +27,7 @@ pub extern "C" fn mdr_message(payload: &[u8], values: &mut [u64]) -> u8
     ensures value { result ≡ status_of (split_of payload.now) }
     ensures values_after { values.new ≡ told (numbers_of message_numbers (split_of payload.now)) values.old }
 {
-    match Message::split(payload) {
-        Split::Parts(m) => {
-            let kind = m.kind;
-            let numbers = [m.command as u64, byte_or(kind), m.len as u64];
-            tell(&numbers, values);
-            0
-        }
-        Split::Refused(r) => refuse(r, values),
-    }
+    answer_told(Message::split(payload), values)
 }
 
 #[unsafe(no_mangle)]
@@ -48,14 +35,7 @@ pub extern "C" fn mdr_battery(payload: &[u8], values: &mut [u64]) -> u8
     ensures value { result ≡ status_of (battery_of payload.now) }
     ensures values_after { values.new ≡ told (numbers_of battery_numbers (battery_of payload.now)) values.old }
 {
-    match payload::decode_battery(payload) {
-        BatteryAnswer::Report(report) => {
-            let numbers = battery(report);
-            tell(&numbers, values);
-            0
-        }
-        BatteryAnswer::Refused(r) => refuse(r, values),
-    }
+    answer_told(payload::decode_battery(payload), values)
 }
 
 #[unsafe(no_mangle)]
@@ -63,14 +43,7 @@ pub extern "C" fn mdr_noise(payload: &[u8], values: &mut [u64]) -> u8
     ensures value { result ≡ status_of (noise_of payload.now) }
     ensures values_after { values.new ≡ told (numbers_of noise_numbers (noise_of payload.now)) values.old }
 {
-    match payload::decode_noise(payload) {
-        NoiseAnswer::Report(report) => {
-            let numbers = noise(report);
-            tell(&numbers, values);
-            0
-        }
-        NoiseAnswer::Refused(r) => refuse(r, values),
-    }
+    answer_told(payload::decode_noise(payload), values)
 }
 
 #[unsafe(no_mangle)]
@@ -82,12 +55,12 @@ pub extern "C" fn mdr_noise_capability(payload: &[u8], values: &mut [u64]) -> u8
     let answer = c.answer;
     let report = c.report;
     match answer {
-        CapabilityAnswer::Kind(kind) => {
+        Ok(kind) => {
             let numbers = ranges(kind, report);
             tell(&numbers, values);
             0
         }
-        CapabilityAnswer::Refused(r) => refuse(r, values),
+        Err(r) => refuse(r, values),
     }
 }
 
@@ -97,13 +70,13 @@ pub extern "C" fn mdr_equalizer(payload: &[u8], values: &mut [u64]) -> u8
     ensures values_after { values.new ≡ told (numbers_of (equalizer_numbers (length (steps_of payload.now))) (equalizer_of payload.now)) values.old }
 {
     match lists::decode_equalizer(payload) {
-        EqAnswer::Report { preset, count } => {
+        Ok(EqReport { preset, count }) => {
             let steps = lists::equalizer_steps(payload);
             let numbers = [preset as u64, count as u64, steps.len() as u64];
             tell(&numbers, values);
             0
         }
-        EqAnswer::Refused(r) => refuse(r, values),
+        Err(r) => refuse(r, values),
     }
 }
 
@@ -112,14 +85,7 @@ pub extern "C" fn mdr_paired_devices(payload: &[u8], values: &mut [u64]) -> u8
     ensures value { result ≡ status_of (paired_of payload.now) }
     ensures values_after { values.new ≡ told (numbers_of only (paired_of payload.now)) values.old }
 {
-    match paired::decode_paired_devices(payload) {
-        PairedDevices::Count(count) => {
-            let numbers = [count as u64];
-            tell(&numbers, values);
-            0
-        }
-        PairedDevices::Refused(r) => refuse(r, values),
-    }
+    answer_told(paired::decode_paired_devices(payload), values)
 }
 
 #[unsafe(no_mangle)]
@@ -127,14 +93,7 @@ pub extern "C" fn mdr_paired_device(payload: &[u8], index: usize, values: &mut [
     ensures value { result ≡ status_of (lookup_of payload.now index) }
     ensures values_after { values.new ≡ told (numbers_of device_numbers (lookup_of payload.now index)) values.old }
 {
-    match paired::paired_device(payload, index) {
-        PairedLookup::Device(d) => {
-            let numbers = device(d);
-            tell(&numbers, values);
-            0
-        }
-        PairedLookup::Refused(r) => refuse(r, values),
-    }
+    answer_told(paired::paired_device(payload, index), values)
 }
 
 #[unsafe(no_mangle)]
@@ -150,34 +109,13 @@ pub extern "C" fn mdr_support_check(payload: &[u8], values: &mut [u64]) -> u8
     ensures value { result ≡ status_of (check_of payload.now) }
     ensures values_after { values.new ≡ told (numbers_of only (check_of payload.now)) values.old }
 {
-    match lists::check_support_functions(payload) {
-        SupportCheck::Count(count) => {
-            let numbers = [count as u64];
-            tell(&numbers, values);
-            0
-        }
-        SupportCheck::Refused(r) => refuse(r, values),
-    }
+    answer_told(lists::check_support_functions(payload), values)
 }
 
 fn table_of(n: u8) -> Table
     ensures { result ≡ table_of n }
 {
     if n == 1 { Table::One } else { Table::Two }
-}
-
-fn support_told(answer: SupportAnswer, values: &mut [u64]) -> u8
-    ensures value { result ≡ status_of (support_told answer) }
-    ensures values_after { values.new ≡ told (numbers_of list_numbers (support_told answer)) values.old }
-{
-    match answer {
-        SupportAnswer::Functions { table: _, count } => {
-            let numbers = [count as u64];
-            tell(&numbers, values);
-            0
-        }
-        SupportAnswer::Refused(r) => refuse(r, values),
-    }
 }
 
 #[unsafe(no_mangle)]
@@ -191,7 +129,7 @@ pub extern "C" fn mdr_support_functions(
     ensures values_after { values.new ≡ told (numbers_of list_numbers (support_call (table_of table) payload.now records.old).answer) values.old }
     ensures records_after { records.new ≡ (support_call (table_of table) payload.now records.old).records }
 {
-    support_told(
+    answer_told(
         decode_support_functions(table_of(table), payload, records),
         values,
     )
@@ -202,14 +140,7 @@ pub extern "C" fn mdr_general_setting(payload: &[u8], values: &mut [u64]) -> u8
     ensures value { result ≡ status_of (setting_of payload.now) }
     ensures values_after { values.new ≡ told (numbers_of setting_numbers (setting_of payload.now)) values.old }
 {
-    match payload::decode_general_setting_param(payload) {
-        SettingAnswer::Param(p) => {
-            let numbers = [p.slot as u64, flag(p.enabled)];
-            tell(&numbers, values);
-            0
-        }
-        SettingAnswer::Refused(r) => refuse(r, values),
-    }
+    answer_told(payload::decode_general_setting_param(payload), values)
 }
 
 #[unsafe(no_mangle)]
@@ -217,14 +148,7 @@ pub extern "C" fn mdr_general_setting_info(payload: &[u8], values: &mut [u64]) -
     ensures value { result ≡ status_of (info_of payload.now) }
     ensures values_after { values.new ≡ told (numbers_of info_numbers (info_of payload.now)) values.old }
 {
-    match setting_info::decode_general_setting_info(payload) {
-        SettingInfoAnswer::Info(s) => {
-            let numbers = setting_info(s);
-            tell(&numbers, values);
-            0
-        }
-        SettingInfoAnswer::Refused(r) => refuse(r, values),
-    }
+    answer_told(setting_info::decode_general_setting_info(payload), values)
 }
 
 #[unsafe(no_mangle)]
@@ -248,31 +172,12 @@ fn range(min: u8, max: u8, step: u8) -> AmbientRange
     }
 }
 
-fn admits_told(answer: Admitted, values: &mut [u64]) -> u8
-    ensures value { result ≡ status_of (admitted_told answer) }
-    ensures values_after { values.new ≡ told (numbers_of bit_numbers (admitted_told answer)) values.old }
-{
-    match answer {
-        Admitted::No => {
-            let numbers = [0];
-            tell(&numbers, values);
-            0
-        }
-        Admitted::Yes => {
-            let numbers = [1];
-            tell(&numbers, values);
-            0
-        }
-        Admitted::Refused(r) => refuse(r, values),
-    }
-}
-
 #[unsafe(no_mangle)]
 pub extern "C" fn mdr_admits(min: u8, max: u8, step: u8, level: i32, values: &mut [u64]) -> u8
     ensures value { result ≡ status_of (admits_of (unvoiced min max step) level) }
     ensures values_after { values.new ≡ told (numbers_of bit_numbers (admits_of (unvoiced min max step) level)) values.old }
 {
-    admits_told(range(min, max, step).admits(level), values)
+    answer_told(range(min, max, step).admits(level), values)
 }
 
 #[unsafe(no_mangle)]
@@ -287,18 +192,8 @@ pub extern "C" fn mdr_within(
     ensures value { result ≡ 0 }
     ensures values_after { values.new ≡ told (within_numbers (within_of (unvoiced min max step) low high)) values.old }
 {
-    match range(min, max, step).within(low, high) {
-        Narrowed::Range(r) => {
-            let numbers = [1, r.min as u64, r.max as u64, r.step as u64];
-            tell(&numbers, values);
-            0
-        }
-        Narrowed::Empty => {
-            let numbers = [0];
-            tell(&numbers, values);
-            0
-        }
-    }
+    range(min, max, step).within(low, high).tell(values);
+    0
 }
 
 #[unsafe(no_mangle)]

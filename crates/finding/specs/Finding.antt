@@ -1,14 +1,11 @@
 -- 01, "Scanner": look and its twin.
-use Rattle.std.specs.Prelude.{ℕ, List, []}
-use Rattle.std.proofs.Math.Option.{Option, none, some}
+use Rattle.std.specs.Prelude.{ℕ, List, [], Option}
 use Rattle.base.specs.Outcome.{Outcome, accepted, refused, pick, on_accepted}
-use Rattle.base.specs.Refusal.{refusal_told}
-use Rattle.held.specs.Search.{seen, Spot, spot_of, bytes_by}
+use Rattle.held.specs.Search.{seen, spot_of, bytes_by}
+use Rattle.held.specs.declared.search.Spot.{Spot}
 use Rattle.cutting.specs.Cutting.{moved_of}
 use Rattle.scanner.specs.Scanner.{held_of, too_far}
 use Rattle.scanner.specs.declared.scanner.Scanner.{Scanner}
-use Rattle.finding.specs.declared.finding.Found.{Found}
-use Rattle.finding.specs.declared.finding.Found.TheVariants.{At, Nothing, Refused}
 
 -- "A twin call gives that span's offset and length, or none, or the refusal"
 unfoldable pub find_call : Scanner → List ℕ → Outcome (Option Spot)
@@ -29,9 +26,3 @@ peek_by (accepted held) s = pick (too_far s (moved_of s.limit held)) (refused 27
 
 unfoldable pub peek_call : Scanner → List ℕ → Outcome (Option Spot)
 peek_call s store = peek_by (held_of s store) s
-
--- the twin's answer in 01's numbers
-abbrev pub found_told : Found → Outcome (Option Spot)
-found_told (At at len) = accepted (some (record { at = at; len = len }))
-found_told Nothing = accepted none
-found_told (Refused r) = refusal_told r

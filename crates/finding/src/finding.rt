@@ -1,40 +1,29 @@
 // The first span among the held bytes.
 ghost use Rattle.std.specs.Prelude.{◌≡◌};
-ghost use Rattle.finding.specs.Finding.{find_call, found_told, look_of};
+ghost use Rattle.finding.specs.Finding.{find_call, look_of};
+ghost use Rattle.base.specs.Refusal.{outcome_of};
 
 use frame::Refusal;
-use held::{Sight, seek};
-use scanner::{Checked, Scanner, check};
+use held::{Sight, Spot, seek};
+use scanner::{Scanner, check};
 
-#[derive(Clone, Copy)]
-pub enum Found {
-    At { at: usize, len: usize },
-    Nothing,
-    Refused(Refusal),
-}
-
-pub fn find(scanner: Scanner, store: &[u8]) -> Found
-    ensures { found_told result ≡ find_call scanner store.now }
+#[tactic(auto, using(scanner::proofs::LawsScanner::held_known, crate::proofs::LawsFinding::found))]
+pub fn find(scanner: Scanner, store: &[u8]) -> Result<Option<Spot>, Refusal>
+    ensures { outcome_of result ≡ find_call scanner store.now }
 {
-    match check(scanner, store) {
-        Checked::Refused(r) => Found::Refused(r),
-        Checked::Fine => {
-            let count = scanner.count;
-            match seek(&store[..count]) {
-                Sight::NoStart => Found::Nothing,
-                Sight::NoEnd(_) => Found::Nothing,
-                Sight::Both { at, len } => Found::At { at: at, len: len },
-            }
-        }
-    }
+    check(scanner, store)?;
+    Ok(match seek(&store[..scanner.count]) {
+        Sight::NoStart | Sight::NoEnd(_) => None,
+        Sight::Both { at, len } => Some(Spot { at, len }),
+    })
 }
 
+#[tactic(auto, using(crate::proofs::LawsFinding::looking))]
 pub fn look(scanner: Scanner, store: &[u8]) -> &[u8]
     ensures { result.now ≡ look_of scanner store.now }
 {
     match find(scanner, store) {
-        Found::At { at, len } => &store[at..at + len],
-        Found::Nothing => &store[..0],
-        Found::Refused(_) => &store[..0],
+        Ok(Some(Spot { at, len })) => &store[at..at + len],
+        Ok(None) | Err(_) => &[],
     }
 }

@@ -4,5 +4,6 @@
 mod finding;
 mod peeking;
 
-pub use finding::{Found, find, look};
+pub use finding::{find, look};
+pub use held::Spot;
 pub use peeking::peek;

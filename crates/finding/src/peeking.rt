@@ -1,38 +1,24 @@
 // The next span's place, as a take would find it.
 ghost use Rattle.std.specs.Prelude.{◌≡◌};
-ghost use Rattle.finding.specs.Finding.{found_told, peek_call};
+ghost use Rattle.finding.specs.Finding.{peek_call};
+ghost use Rattle.base.specs.Refusal.{outcome_of};
 
-use crate::finding::Found;
-use cutting::{Moved, decide};
-use scanner::{Checked, Counted, Scanner, advance, check};
+use base::Refusal;
+use cutting::decide;
+use held::Spot;
+use scanner::{Scanner, advance, check};
 
 // The next span's place, refused where a take would be.
-pub fn peek(scanner: Scanner, store: &[u8]) -> Found
-    ensures { found_told result ≡ peek_call scanner store.now }
+#[tactic(auto, using(scanner::proofs::LawsScanner::held_known, crate::proofs::LawsPeeking::peeks))]
+pub fn peek(scanner: Scanner, store: &[u8]) -> Result<Option<Spot>, Refusal>
+    ensures { outcome_of result ≡ peek_call scanner store.now }
 {
-    match check(scanner, store) {
-        Checked::Refused(r) => Found::Refused(r),
-        Checked::Fine => {
-            let count = scanner.count;
-            let c = decide(&store[..count], scanner.limit);
-            let moved = Moved {
-                pushed: 0,
-                handed: c.handed,
-                dropped: c.dropped,
-            };
-            match advance(scanner, count, moved) {
-                Counted::Refused(r) => Found::Refused(r),
-                Counted::Next(_) => {
-                    if c.span {
-                        Found::At {
-                            at: c.dropped,
-                            len: c.handed,
-                        }
-                    } else {
-                        Found::Nothing
-                    }
-                }
-            }
-        }
-    }
+    check(scanner, store)?;
+    let cut = decide(&store[..scanner.count], scanner.limit);
+    advance(scanner, scanner.count, cut.into())?;
+    let spot = Spot {
+        at: cut.dropped,
+        len: cut.handed,
+    };
+    Ok(cut.span.then_some(spot))
 }

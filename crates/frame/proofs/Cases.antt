@@ -50,7 +50,7 @@ module _ (work : List ℕ) (room : 7 ≤ length work) where
   case_e = unpack_long _ work (omega arith) refl refl room
 
   -- raw START inside: accepted
-  pub case_f : unpack_call (0x3E ∷ body_f ++ (0x3C ∷ [])) work ≡ record { answer = accepted (record { kind = Data; seq = 0x3E; len = 0 }); work = body_f ++ replicate (length work - 7) 0 }
+  pub case_f : unpack_call (0x3E ∷ body_f ++ (0x3C ∷ [])) work ≡ record { answer = accepted (record { data_type = Data; seq = 0x3E; len = 0 }); work = body_f ++ replicate (length work - 7) 0 }
   unfolding total escapee_then unescape_of body_checked marked from_wire
   case_f = unpack_long _ work (omega arith) refl refl room
 
@@ -62,6 +62,6 @@ case_f_packs out room = rw (le-ltb (length out) 11 room)
 
 -- a battery report
 pub case_h : (work : List ℕ) → 11 ≤ length work
-    → unpack_call (0x3E ∷ body_h ++ (0x3C ∷ [])) work ≡ record { answer = accepted (record { kind = DataMdr; seq = 0x00; len = 4 }); work = body_h ++ replicate (length work - 11) 0 }
+    → unpack_call (0x3E ∷ body_h ++ (0x3C ∷ [])) work ≡ record { answer = accepted (record { data_type = DataMdr; seq = 0x00; len = 4 }); work = body_h ++ replicate (length work - 11) 0 }
 unfolding total escapee_then unescape_of body_checked marked from_wire
 case_h work room = unpack_long _ work (omega arith) refl refl room

@@ -13,7 +13,8 @@ use Rattle.base.specs.Outcome.{Outcome, accepted, refused, pick}
 use Rattle.base.specs.DataType.{to_wire}
 use Rattle.base.specs.Sum.{checksum_of}
 use Rattle.escaping.specs.Escaping.{START, END, SENTRY, escaped_byte, each_of, escape_of, then_byte, escapee_then, unescape_of}
-use Rattle.framing.specs.Framing.{length_field, summed_of, body_of, frame_of, Header, length_of, carried, summed, body_checked, then_checked, inner, marked, unpack_of, payload_of, repacked, header_of, unpack_by, unpack_call}
+use Rattle.framing.specs.Framing.{length_field, summed_of, body_of, frame_of, length_of, carried, summed, body_checked, then_checked, inner, marked, unpack_of, payload_of, repacked, header_of, unpack_by, unpack_call}
+use Rattle.framing.specs.declared.framing.Header.{Header}
 use Rattle.base.specs.declared.data_type.DataType.{DataType}
 use Rattle.base.proofs.LawsDataType.{Yielded, returns}
 use Rattle.escaping.proofs.LawsEscaping.{each_byte, special, plain_byte, no_shorter}
@@ -116,7 +117,7 @@ module _ (kind seq : ℕ) (p : List ℕ) where
 
 -- for the calls: unpacking what pack wrote gives back sequence, payload, and every type that a wire byte reads as
 pub record Back (t : DataType) (seq : ℕ) (p after : List ℕ) (answer : Outcome Header) : Type 0 where
-  pub told : answer ≡ accepted (record { kind = t; seq = seq; len = length p })
+  pub told : answer ≡ accepted (record { data_type = t; seq = seq; len = length p })
   pub payload : take (length p) (drop 6 after) ≡ p
 
 module _ (kind seq : ℕ) (p : List ℕ) (h : length p ≤ 4294967295) where
@@ -133,7 +134,7 @@ module _ (kind seq : ℕ) (p : List ℕ) (h : length p ≤ 4294967295) where
       unpack_long (frame_of (body_of kind seq p)) work long starts (frame_last (body_of kind seq p)) room
       ∙ ap (λ (o : Outcome (List ℕ)). unpack_by o (length work)) (round_trip kind seq p h)
 
-told_back : (t : DataType) (seq : ℕ) (p : List ℕ) → Yielded t → accepted (header_of (body_of (to_wire t) seq p)) ≡ accepted (record { kind = t; seq = seq; len = length p })
+told_back : (t : DataType) (seq : ℕ) (p : List ℕ) → Yielded t → accepted (header_of (body_of (to_wire t) seq p)) ≡ accepted (record { data_type = t; seq = seq; len = length p })
 unfolding body_of
 told_back t seq p y = let e : length (body_of (to_wire t) seq p) - 7 ≡ length p = omega (arith, body_length (to_wire t) seq p) in rw (e, returns t y)
 

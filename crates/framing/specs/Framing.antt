@@ -1,15 +1,13 @@
 -- 01, "Frames": pack, unpack and ack, and the refusals 8 to 18.
 use Rattle.std.specs.Prelude.{ℕ, ◌+◌, ◌-◌, ◌*◌, ◌/◌, ◌%◌, List, [], ◌∷◌, ◌++◌, length, take, drop, replicate, ◌==◌, nat_lt, slice_index}
 use Rattle.base.specs.Outcome.{Outcome, accepted, refused, pick}
-use Rattle.base.specs.Refusal.{refusal_told}
 use Rattle.base.specs.DataType.{from_wire, to_wire}
 use Rattle.base.specs.Sum.{checksum_of}
 use Rattle.base.specs.Writing.{WriteEffect, write_call}
 use Rattle.escaping.specs.Escaping.{START, END, escape_of, unescape_of}
 use Rattle.base.specs.declared.data_type.DataType.{DataType}
 use Rattle.base.specs.declared.data_type.DataType.TheVariants.{Ack}
-use Rattle.framing.specs.declared.framing.Unpacked.{Unpacked}
-use Rattle.framing.specs.declared.framing.Unpacked.TheVariants.{Frame, Refused}
+use Rattle.framing.specs.declared.framing.Header.{Header}
 
 -- "a four-byte length with the high byte first"
 abbrev pub length_field : ℕ → List ℕ
@@ -38,15 +36,6 @@ abbrev pub ack_call : ℕ → List ℕ → WriteEffect
 ack_call seq out = pack_call Ack ((257 - seq) % 256) [] out
 
 -- type, sequence and payload length
-pub record Header : Type 0 where
-  pub kind : DataType
-  pub seq : ℕ
-  pub len : ℕ
-
-abbrev pub unpacked_told : Unpacked → Outcome Header
-unpacked_told (Frame kind seq len) = accepted (record { kind = kind; seq = seq; len = len })
-unpacked_told (Refused r) = refusal_told r
-
 abbrev pub length_of : List ℕ → ℕ
 length_of body = slice_index body 2 * 16777216 + slice_index body 3 * 65536 + slice_index body 4 * 256 + slice_index body 5
 
@@ -83,6 +72,10 @@ marked refuse frame next =
     (refuse 10))
     (refuse 9))
 
+-- what stands between the markers, or why there are none
+abbrev pub inner_of : List ℕ → Outcome (List ℕ)
+inner_of frame = marked (λ n. refused n []) frame (accepted (inner frame))
+
 -- the body of a frame, or why there is none, in a work area that is long enough
 abbrev pub unpack_of : List ℕ → Outcome (List ℕ)
 unpack_of frame = marked (λ n. refused n []) frame (then_checked (unescape_of (inner frame)))
@@ -100,7 +93,7 @@ abbrev pub repacked : List ℕ → List ℕ
 repacked body = frame_of (body_of (slice_index body 0) (slice_index body 1) (payload_of body))
 
 abbrev pub header_of : List ℕ → Header
-header_of body = record { kind = from_wire (slice_index body 0); seq = slice_index body 1; len = length body - 7 }
+header_of body = record { data_type = from_wire (slice_index body 0); seq = slice_index body 1; len = length body - 7 }
 
 -- the body at the front and zeros behind; "unpack's 12 to 16 zero the work area"
 abbrev pub unpack_by : Outcome (List ℕ) → ℕ → UnpackEffect

@@ -1,188 +1,124 @@
 // A frame: START, the escaped body, END. A body: type, sequence, length, payload, checksum.
-ghost use Rattle.std.specs.Prelude.{◌≡◌, ◌+◌, ◌≤◌, [], ◌∷◌, ◌++◌, length, take, nat_le};
-ghost use Rattle.base.specs.Writing.{write_call, written_told};
-ghost use Rattle.base.specs.Stored.{Stored};
-ghost use Rattle.escaping.specs.Escaping.{escaped_byte, escape_of};
-ghost use Rattle.framing.specs.Framing.{frame_of, pack_call, ack_call, unpacked_told, length_of, body_checked, unpack_by, unpack_call};
+ghost use Rattle.std.specs.Prelude.{◌≡◌, ◌≤◌, [], ◌∷◌, ◌++◌, length, nat_le};
+ghost use Rattle.base.specs.Outcome.{on_accepted};
+ghost use Rattle.base.specs.Writing.{write_call};
+ghost use Rattle.framing.specs.Framing.{frame_of, pack_call, ack_call, header_of, body_checked, inner_of, unpack_call};
+ghost use Rattle.base.specs.Refusal.{outcome_of};
 
-use base::{DataType, Refusal, Written, checksum, wipe, wipe_from};
-use escaping::{END, SENTRY, START, escape, escaped_len, unescape};
+use base::{DataType, Refusal, checksum, wipe, wipe_from};
+use escaping::{END, START, escape_at, escaped_len, unescape};
 
 // What a frame carried; its payload stands in the work area from offset 6 on.
-#[derive(Clone, Copy)]
-pub enum Unpacked {
-    Frame {
-        data_type: DataType,
-        seq: u8,
-        len: usize,
-    },
-    Refused(Refusal),
+#[derive(Clone, Copy, Debug, PartialEq, Eq)]
+pub struct Header {
+    pub data_type: DataType,
+    pub seq: u8,
+    pub len: usize,
 }
 
-// Whether the frame of the body that is `head`, the payload and `sum` has at most `room` bytes.
+// Whether the frame of the body that is `head`, the payload and `sum` has at most `room` bytes. No byte becomes more than two, so that with room for those nothing is counted.
+#[tactic(auto, using(crate::proofs::LawsFraming::parts_length, crate::proofs::LawsFraming::parts_width, escaping::proofs::LawsEscaping::escape_width))]
 fn frame_fits(head: &[u8], payload: &[u8], sum: u8, room: usize) -> bool
     requires { (length head.now ≤ 6) × (length payload.now ≤ 4294967295) }
     ensures { result ≡ nat_le (length (frame_of (head.now ++ payload.now ++ (sum ∷ [])))) room }
 {
-    // no byte becomes more than two
-    if 16 + 2 * payload.len() <= room {
-        return true;
-    }
-    let tail = [sum];
-    2 + escaped_len(head) + escaped_len(payload) + escaped_len(&tail) <= room
-}
-
-// The few bytes beside the payload are written here: a call of `escape` would cost more than they do.
-fn put_escaped(b: u8, out: &mut [u8], at: usize) -> usize
-    requires { at + length (escaped_byte b) ≤ length out.old }
-    ensures { Stored (escaped_byte b) out.old at out.new result }
-{
-    match b {
-        0x3C..=0x3E => {
-            out[at] = SENTRY;
-            out[at + 1] = b - 16;
-            at + 2
-        }
-        _ => {
-            out[at] = b;
-            at + 1
-        }
-    }
-}
-
-// The escaped form byte by byte, stored from `at` on; the place behind it.
-fn put_each(src: &[u8], out: &mut [u8], at: usize) -> usize
-    requires { at + length (escape_of src.now) ≤ length out.old }
-    ensures { Stored (escape_of src.now) out.old at out.new result }
-{
-    let mut next = at;
-    let mut i = 0;
-    while i < src.len() {
-        next = put_escaped(src[i], out, next);
-        i += 1;
-    }
-    next
-}
-
-// The escaped form, stored from `at` on; the place behind it.
-fn put(src: &[u8], out: &mut [u8], at: usize) -> usize
-    requires { at + length (escape_of src.now) ≤ length out.old }
-    ensures { Stored (escape_of src.now) out.old at out.new result }
-{
-    match escape(src, &mut out[at..]) {
-        Written::Bytes(n) => at + n,
-        Written::Refused(_) => at,
-    }
+    16 + 2 * payload.len() <= room
+        || 2 + escaped_len(head) + escaped_len(payload) + escaped_len(&[sum]) <= room
 }
 
 // The frame of the body that is `head`, the payload and `sum`.
-fn write_frame(head: &[u8], payload: &[u8], sum: u8, out: &mut [u8]) -> Written
+fn write_frame(head: &[u8], payload: &[u8], sum: u8, out: &mut [u8]) -> Result<usize, Refusal>
     requires { (length head.now ≤ 6) × (length payload.now ≤ 4294967295) }
-    ensures result_value { written_told result ≡ (write_call (frame_of (head.now ++ payload.now ++ (sum ∷ []))) out.old).answer }
+    ensures result_value { outcome_of result ≡ (write_call (frame_of (head.now ++ payload.now ++ (sum ∷ []))) out.old).answer }
     ensures out_after { out.new ≡ (write_call (frame_of (head.now ++ payload.now ++ (sum ∷ []))) out.old).out }
 {
     if !frame_fits(head, payload, sum, out.len()) {
-        return Written::Refused(Refusal::OutputTooShort);
+        return Err(Refusal::OutputTooShort);
     }
     out[0] = START;
-    let tail = [sum];
-    let a = put_each(head, out, 1);
-    let b = put(payload, out, a);
-    let c = put_each(&tail, out, b);
+    let a = escape_at(head, out, 1);
+    let b = escape_at(payload, out, a);
+    let c = escape_at(&[sum], out, b);
     out[c] = END;
-    Written::Bytes(c + 1)
+    Ok(c + 1)
 }
 
-pub fn pack(data_type: DataType, seq: u8, payload: &[u8], out: &mut [u8]) -> Written
-    ensures result_value { written_told result ≡ (pack_call data_type seq payload.now out.old).answer }
+pub fn pack(data_type: DataType, seq: u8, payload: &[u8], out: &mut [u8]) -> Result<usize, Refusal>
+    ensures result_value { outcome_of result ≡ (pack_call data_type seq payload.now out.old).answer }
     ensures out_after { out.new ≡ (pack_call data_type seq payload.now out.old).out }
 {
-    let n = payload.len();
-    if 4294967295 < n {
-        return Written::Refused(Refusal::PayloadTooLong);
-    }
-    let head = [
-        data_type.to_wire(),
-        seq,
-        (n / 16777216 % 256) as u8,
-        (n / 65536 % 256) as u8,
-        (n / 256 % 256) as u8,
-        (n % 256) as u8,
-    ];
-    let sum = std::num::wrapping_add_u8(checksum(&head), checksum(payload));
+    let Ok(len) = u32::try_from(payload.len()) else {
+        return Err(Refusal::PayloadTooLong);
+    };
+    let [a, b, c, d] = len.to_be_bytes();
+    let head = [data_type.to_wire(), seq, a, b, c, d];
+    let sum = checksum(&head).wrapping_add(checksum(payload));
     write_frame(&head, payload, sum, out)
 }
 
 // The acknowledgement of a frame that came with the sequence `seq`.
-pub fn ack(seq: u8, out: &mut [u8]) -> Written
-    ensures result_value { written_told result ≡ (ack_call seq out.old).answer }
+pub fn ack(seq: u8, out: &mut [u8]) -> Result<usize, Refusal>
+    ensures result_value { outcome_of result ≡ (ack_call seq out.old).answer }
     ensures out_after { out.new ≡ (ack_call seq out.old).out }
 {
-    pack(DataType::Ack, std::num::wrapping_sub_u8(1, seq), b"", out)
+    pack(DataType::Ack, 1u8.wrapping_sub(seq), b"", out)
 }
 
-// The length that a body's header declares.
-fn declared_len(body: &[u8]) -> usize
-    requires { 6 ≤ length body.now }
-    ensures { result ≡ length_of body.now }
+// What a body's header says, the checksum tested before the length is believed.
+#[tactic(auto, unfolding(crate::specs::Framing::body_checked))]
+fn read_body(body: &[u8]) -> Result<Header, Refusal>
+    ensures { outcome_of result ≡ on_accepted header_of (body_checked body.now) }
 {
-    (body[2] as usize) * 16777216
-        + (body[3] as usize) * 65536
-        + (body[4] as usize) * 256
-        + (body[5] as usize)
-}
-
-// The body in the first n bytes is checked, the checksum before the length is believed.
-fn check_body(work: &mut [u8], n: usize) -> Unpacked
-    requires { n ≤ length work.old }
-    ensures result_value { unpacked_told result ≡ (unpack_by (body_checked (take n work.old)) (length work.old)).answer }
-    ensures work_after { work.new ≡ (unpack_by (body_checked (take n work.old)) (length work.old)).work }
-{
-    if n < 7 {
-        wipe(work);
-        return Unpacked::Refused(Refusal::BodyTooShort);
-    }
-    let declared = work[n - 1];
-    let computed = checksum(&work[..n - 1]);
+    let &[kind, seq, a, b, c, d, .., declared] = body else {
+        return Err(Refusal::BodyTooShort);
+    };
+    let n = body.len();
+    let computed = checksum(&body[..n - 1]);
     if declared != computed {
-        wipe(work);
-        return Unpacked::Refused(Refusal::BadChecksum { declared, computed });
+        return Err(Refusal::BadChecksum { declared, computed });
     }
-    let len = declared_len(work);
+    let len = u32::from_be_bytes([a, b, c, d]) as usize;
     if len != n - 7 {
-        wipe(work);
-        return Unpacked::Refused(Refusal::LengthMismatch {
+        return Err(Refusal::LengthMismatch {
             declared: len,
             actual: n - 7,
         });
     }
-    let data_type = DataType::from_wire(work[0]);
-    let seq = work[1];
-    wipe_from(work, n);
-    Unpacked::Frame {
-        data_type,
+    Ok(Header {
+        data_type: DataType::from_wire(kind),
         seq,
         len,
-    }
+    })
 }
 
-// Reads one whole frame. Its body comes to stand at the front of the work area, with zeros behind.
-pub fn unpack(frame: &[u8], work: &mut [u8]) -> Unpacked
-    ensures result_value { unpacked_told result ≡ (unpack_call frame.now work.old).answer }
-    ensures work_after { work.new ≡ (unpack_call frame.now work.old).work }
+// What stands between a frame's markers.
+#[tactic(auto, unfolding(crate::specs::Framing::marked))]
+pub fn between_markers(frame: &[u8]) -> Result<&[u8], Refusal>
+    ensures { on_accepted (λ bytes. bytes.now) (outcome_of result) ≡ inner_of frame.now }
 {
     let n = frame.len();
     if n < 9 {
-        return Unpacked::Refused(Refusal::TooShort);
+        return Err(Refusal::TooShort);
     }
     if frame[0] != START {
-        return Unpacked::Refused(Refusal::NoStart);
+        return Err(Refusal::NoStart);
     }
     if frame[n - 1] != END {
-        return Unpacked::Refused(Refusal::NoEnd);
+        return Err(Refusal::NoEnd);
     }
-    match unescape(&frame[1..n - 1], work) {
-        Written::Refused(r) => Unpacked::Refused(r),
-        Written::Bytes(len) => check_body(work, len),
+    Ok(&frame[1..n - 1])
+}
+
+// Reads one whole frame. Its body comes to stand at the front of the work area, with zeros behind.
+pub fn unpack(frame: &[u8], work: &mut [u8]) -> Result<Header, Refusal>
+    ensures result_value { outcome_of result ≡ (unpack_call frame.now work.old).answer }
+    ensures work_after { work.new ≡ (unpack_call frame.now work.old).work }
+{
+    let len = unescape(between_markers(frame)?, work)?;
+    let header = read_body(&work[..len]);
+    match header {
+        Ok(_) => wipe_from(work, len),
+        Err(_) => wipe(work),
     }
+    header
 }

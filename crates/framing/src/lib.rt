@@ -3,4 +3,4 @@
 
 mod framing;
 
-pub use framing::{Unpacked, ack, pack, unpack};
+pub use framing::{Header, ack, between_markers, pack, unpack};

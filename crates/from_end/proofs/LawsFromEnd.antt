@@ -1,5 +1,9 @@
 -- 02, C-14: the checksum from the far end, cut anywhere, is 01's. Assumes nothing.
-use Rattle.std.proofs.Common.{suc, ◌≡◌, ℕ, zero, ◌+◌, ◌%◌, ◌<◌, ◌≤◌, List, [], ◌∷◌, ◌++◌, length, get_or, take, drop, sym, refl, ◌∙◌, arith, drop-cons, take-add}
+use Rattle.std.proofs.Common.{suc, ◌≡◌, ℕ, zero, ◌+◌, ◌%◌, ◌<◌, List, [], ◌∷◌, ◌++◌, length, take, drop, fold, reverse, sym, ap, ◌*◌, refl, ◌∙◌, arith, take-append-drop}
+use Rattle.std.proofs.lemmas.List.{reverse-append}
+use Rattle.std.proofs.lemmas.List.Sums.{fold_push}
+use Rattle.std.specs.Simd.{first_chunks}
+use Rattle.std.proofs.lemmas.Grind.{common_steps}
 use mathlib.Core.List.{foldr, flatten}
 use Rattle.base.specs.Sum.{total, checksum_of}
 use Rattle.from_end.specs.FromEnd.{back_onto}
@@ -33,15 +37,21 @@ parts_back (p ∷ ps) = rw (parts_back ps, back_append 0 p (flatten ps))
 pub parts : (ps : List (List ℕ)) → foldr (λ p sum. back_onto sum p) 0 ps ≡ checksum_of (flatten ps)
 parts ps = parts_back ps ∙ whole (flatten ps)
 
--- of the first i bytes those from k on are added first: w of them, or one
-pub back_block : (sum next : ℕ) (bytes : List ℕ) (i k w : ℕ) → i ≡ k + w → next ≡ back_onto sum (take w (drop k bytes)) → back_onto next (take k bytes) ≡ back_onto sum (take i bytes)
-back_block sum next bytes i k w whole e = rw (e, whole, take-add k w bytes, back_append sum (take k bytes) (take w (drop k bytes)))
+-- a fold from the end adds the first last
+fold_back : {X : Type 0} (f : ℕ → X → ℕ) (sum : ℕ) (x : X) (xs : List X) → fold f sum (reverse (x ∷ xs)) ≡ f (fold f sum (reverse xs)) x
+fold_back f sum x xs = ap (fold f sum) (reverse-append (x ∷ []) xs) ∙ fold_push f sum (reverse xs) x
 
-pub back_step : (sum next : ℕ) (bytes : List ℕ) (i k : ℕ) → i ≡ k + 1 → i ≤ length bytes → next ≡ (sum + get_or bytes k 0) % 256 → back_onto next (take k bytes) ≡ back_onto sum (take i bytes)
+-- a fold over the bytes from the last to the first, and one over blocks of n bytes
+pub bytes_back : (sum : ℕ) (bytes : List ℕ) → fold (λ s b. (s + b) % 256) sum (reverse bytes) ≡ back_onto sum bytes
 unfolding back_onto
-back_step sum next bytes i k whole within e = back_block sum next bytes i k 1 whole (rw (drop-cons bytes k 0 (omega arith)) e)
+bytes_back sum [] = refl
+bytes_back sum (b ∷ bs) = fold_back (λ s b. (s + b) % 256) sum b bs ∙ ap (λ s. (s + b) % 256) (bytes_back sum bs)
 
-pub back_none : (sum : ℕ) (bytes : List ℕ) (i : ℕ) → i ≤ 0 → back_onto sum (take i bytes) ≡ sum
+pub blocks_back : (sum n k : ℕ) (bytes : List ℕ) → length bytes ≡ k * n → fold back_onto sum (reverse (first_chunks n k bytes)) ≡ back_onto sum bytes
 unfolding back_onto
-back_none sum bytes zero h = refl
-back_none sum bytes (suc _) h = elim h [ ]
+blocks_back sum n zero [] e = refl
+blocks_back sum n zero (b ∷ bs) e = absurd (omega arith)
+blocks_back sum n (suc k) bytes e =
+    fold_back back_onto sum (take n bytes) (first_chunks n k (drop n bytes))
+    ∙ ap (λ s. back_onto s (take n bytes)) (blocks_back sum n k (drop n bytes) (grind (arith, common_steps)))
+    ∙ sym (back_append sum (take n bytes) (drop n bytes)) ∙ ap (back_onto sum) (take-append-drop n bytes)

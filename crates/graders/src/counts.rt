@@ -1,164 +1,127 @@
 // The readings of the counted lists in words: an equalizer's steps, a headset's functions, its paired devices.
-use crate::rules::refusal;
-use crate::say::{byte, counted, gap, number, part, row, say};
-use crate::shown::{address, name};
+use crate::rules::Refused;
+use crate::say::{Counted, ROW, gap, part};
+use crate::shown::{Address, Name};
 use lists::{EqShape, SupportFunction, Table};
-use paired::{PairedDevice, PairedLookup};
+use paired::PairedDevice;
+use std::fmt;
 
-pub fn equalizer_report(rt: &impl Print, preset: u8, steps: &[u8]) {
-    say(rt, b"equalizer preset ");
-    byte(rt, preset);
-    say(rt, b", ");
-    counted(rt, steps.len(), b"step");
-    shape(rt, EqShape::of(steps.len()));
-    if steps.len() > 0 {
-        row(rt);
-        say(rt, b"steps ");
-        each_step(rt, steps);
-        row(rt);
-        say(rt, b"gains ");
-        gains(rt, steps);
-    }
+#[derive(Clone, Copy)]
+pub struct Equalizer<'a> {
+    pub preset: u8,
+    pub steps: &'a [u8],
 }
 
-fn shape(rt: &impl Print, s: EqShape) {
-    match s {
-        EqShape::ClearBassAndFive => say(rt, b", clear bass and five bands"),
-        EqShape::TenBands => say(rt, b", ten bands"),
-        EqShape::Unknown => say(rt, b", of no known shape"),
-    }
-}
-
-fn each_step(rt: &impl Print, steps: &[u8]) {
-    let mut i = 0;
-    while i < steps.len() {
-        gap(rt, i);
-        step(rt, steps[i]);
-        i += 1;
-    }
-}
-
-fn step(rt: &impl Print, b: u8) {
-    number(rt, b as usize);
-}
-
-fn gains(rt: &impl Print, steps: &[u8]) {
-    let mut i = 0;
-    while i < steps.len() {
-        gap(rt, i);
-        signed(rt, lists::gain(steps.len(), steps[i]));
-        i += 1;
-    }
-}
-
-// The gains there are: 0 to 249, then -1 to -10.
-fn gain_at(i: usize) -> i32 {
-    let below = [-1i32, -2, -3, -4, -5, -6, -7, -8, -9, -10];
-    if i < 250 {
-        return (i as u8) as i32;
-    }
-    below[(i - 250) % 10]
-}
-
-fn gain_place(rt: &impl Print, i: usize) {
-    if i < 250 {
-        number(rt, i);
-        return;
-    }
-    say(rt, b"-");
-    number(rt, i - 249);
-}
-
-// A gain by its place in their list: no cast takes a number's sign off.
-fn signed(rt: &impl Print, n: i32) {
-    let mut i = 0;
-    while i < 260 {
-        if gain_at(i) == n {
-            gain_place(rt, i);
-            return;
+impl fmt::Display for Equalizer<'_> {
+    fn fmt<W: fmt::Write>(&self, f: &mut fmt::Formatter<W>) -> fmt::Result {
+        let Equalizer { preset, steps } = *self;
+        let n = steps.len();
+        let shape = match EqShape::of(n) {
+            EqShape::ClearBassAndFive => "clear bass and five bands",
+            EqShape::TenBands => "ten bands",
+            EqShape::Unknown => "of no known shape",
+        };
+        write!(
+            f,
+            "equalizer preset {preset:02X}, {}, {shape}",
+            Counted(n, "step")
+        )?;
+        if steps.is_empty() {
+            return Ok(());
         }
-        i += 1;
-    }
-}
-
-pub fn functions_report(
-    rt: &impl Print,
-    table: Table,
-    count: usize,
-    records: [SupportFunction; 512],
-) {
-    counted(rt, count, b"supported function");
-    match table {
-        Table::One => say(rt, b" of table One"),
-        Table::Two => say(rt, b" of table Two"),
-    }
-    if count > 0 {
-        say(rt, b", code and priority:");
-        row(rt);
-        functions(rt, count, records);
-    }
-}
-
-fn functions(rt: &impl Print, count: usize, records: [SupportFunction; 512]) {
-    let mut i = 0;
-    while i < 512 {
-        if i >= count {
-            return;
+        write!(f, "{ROW}steps ")?;
+        for (i, step) in steps.iter().enumerate() {
+            write!(f, "{}{step}", gap(i))?;
         }
-        let f = records[i];
-        next_function(rt, i);
-        function(rt, f);
-        i += 1;
+        write!(f, "{ROW}gains ")?;
+        for (i, step) in steps.iter().enumerate() {
+            write!(f, "{}{}", gap(i), lists::gain(n, *step))?;
+        }
+        Ok(())
     }
 }
 
-fn next_function(rt: &impl Print, i: usize) {
-    if i == 0 {
-        return;
-    }
-    say(rt, b",");
-    if i % 8 == 0 {
-        row(rt);
-    } else {
-        say(rt, b" ");
+#[derive(Clone, Copy)]
+pub struct Functions<'a> {
+    pub table: Table,
+    pub records: &'a [SupportFunction],
+}
+
+impl fmt::Display for Functions<'_> {
+    fn fmt<W: fmt::Write>(&self, f: &mut fmt::Formatter<W>) -> fmt::Result {
+        let Functions { table, records } = *self;
+        let table = match table {
+            Table::One => "One",
+            Table::Two => "Two",
+        };
+        write!(
+            f,
+            "{} of table {table}",
+            Counted(records.len(), "supported function")
+        )?;
+        if !records.is_empty() {
+            write!(f, ", code and priority:{ROW}")?;
+        }
+        for (i, function) in records.iter().enumerate() {
+            let before = match i {
+                0 => "",
+                _ if i % 8 == 0 => ",\n       ",
+                _ => ", ",
+            };
+            let SupportFunction { code, priority } = *function;
+            write!(f, "{before}{code:02X} {priority:02X}")?;
+        }
+        Ok(())
     }
 }
 
-fn function(rt: &impl Print, f: SupportFunction) {
-    byte(rt, f.code);
-    say(rt, b" ");
-    byte(rt, f.priority);
+#[derive(Clone, Copy)]
+pub struct Devices<'a> {
+    pub count: u8,
+    pub payload: &'a [u8],
 }
 
-pub fn devices_report(rt: &impl Print, count: usize, payload: &[u8]) {
-    counted(rt, count, b"paired device");
-    let mut i = 0;
-    while i < count {
-        row(rt);
-        lookup(rt, payload, i);
-        i += 1;
+impl fmt::Display for Devices<'_> {
+    fn fmt<W: fmt::Write>(&self, f: &mut fmt::Formatter<W>) -> fmt::Result {
+        let count = self.count as usize;
+        write!(f, "{}", Counted(count, "paired device"))?;
+        for i in 0..count {
+            match paired::paired_device(self.payload, i) {
+                Ok(at) => write!(
+                    f,
+                    "{ROW}{}",
+                    Device {
+                        at,
+                        payload: self.payload
+                    }
+                )?,
+                Err(r) => write!(f, "{ROW}{}", Refused(r))?,
+            }
+        }
+        Ok(())
     }
 }
 
-fn lookup(rt: &impl Print, payload: &[u8], index: usize) {
-    match paired::paired_device(payload, index) {
-        PairedLookup::Device(d) => device(rt, payload, d),
-        PairedLookup::Refused(r) => refusal(rt, r),
-    }
+#[derive(Clone, Copy)]
+struct Device<'a> {
+    at: PairedDevice,
+    payload: &'a [u8],
 }
 
-fn device(rt: &impl Print, payload: &[u8], d: PairedDevice) {
-    let characters = d.characters;
-    say(rt, b"address ");
-    address(rt, part(payload, d.address, 17));
-    say(rt, b", status ");
-    byte(rt, d.status);
-    say(rt, b", details ");
-    byte(rt, d.detail0);
-    say(rt, b" ");
-    byte(rt, d.detail1);
-    say(rt, b" ");
-    byte(rt, d.detail2);
-    say(rt, b", name ");
-    name(rt, part(payload, d.name, d.len), characters);
+impl fmt::Display for Device<'_> {
+    fn fmt<W: fmt::Write>(&self, f: &mut fmt::Formatter<W>) -> fmt::Result {
+        let d = self.at;
+        let address = Address(part(self.payload, d.address, 17));
+        let name = Name {
+            bytes: part(self.payload, d.name, d.len),
+            characters: d.characters,
+        };
+        write!(f, "address {address}, status {:02X}", d.status)?;
+        write!(
+            f,
+            ", details {:02X} {:02X} {:02X}",
+            d.detail0, d.detail1, d.detail2
+        )?;
+        write!(f, ", name {name}")
+    }
 }

@@ -1,120 +1,120 @@
 // The readings of battery, noise control and its capability in words.
-use crate::say::{byte, counted, number, row, say, yes_or_no};
+use crate::say::{Counted, ROW, yes_or_no};
 use capability::{AmbientRange, CapabilityReport};
-use payload::{
-    BatteryReport, Cell, Charging, NoiseMode, NoiseReport, OptionByte, OptionCell, OptionFlag,
-};
+use payload::{BatteryReport, Cell, Charging, NoiseMode, NoiseReport};
+use std::fmt;
 
-pub fn battery_report(rt: &impl Print, r: BatteryReport) {
-    let main = r.main;
-    let left = r.left;
-    let right = r.right;
-    let case = r.case;
-    say(rt, b"battery");
-    cell(rt, main, b" ");
-    cell(rt, left, b" left ");
-    cell(rt, right, b"; right ");
-    cell(rt, case, b" case ");
-}
+#[derive(Clone, Copy)]
+pub struct Battery(pub BatteryReport);
 
-fn cell(rt: &impl Print, c: OptionCell, name: &[u8]) {
-    if let OptionCell::Present(there) = c {
-        say(rt, name);
-        present(rt, there);
+impl fmt::Display for Battery {
+    fn fmt<W: fmt::Write>(&self, f: &mut fmt::Formatter<W>) -> fmt::Result {
+        let BatteryReport {
+            main,
+            left,
+            right,
+            case,
+        } = self.0;
+        f.write_str("battery")?;
+        for (name, cell) in [
+            (" ", main),
+            (" left ", left),
+            ("; right ", right),
+            (" case ", case),
+        ] {
+            if let Some(cell) = cell {
+                write!(f, "{name}{}", Level(cell))?;
+            }
+        }
+        Ok(())
     }
 }
 
-fn present(rt: &impl Print, c: Cell) {
-    let status = c.charging;
-    let threshold = c.threshold;
-    number(rt, c.level as usize);
-    charging(rt, status);
-    in_decimal(rt, threshold, b", threshold ");
-}
+#[derive(Clone, Copy)]
+struct Level(Cell);
 
-fn charging(rt: &impl Print, c: Charging) {
-    match c {
-        Charging::No => say(rt, b", not charging"),
-        Charging::Yes => say(rt, b", charging"),
-        Charging::Unknown => say(rt, b", charging not known"),
-        Charging::Charged => say(rt, b", charged"),
-        Charging::Other(b) => {
-            say(rt, b", charging byte ");
-            byte(rt, b);
+impl fmt::Display for Level {
+    fn fmt<W: fmt::Write>(&self, f: &mut fmt::Formatter<W>) -> fmt::Result {
+        let Cell {
+            level,
+            charging,
+            threshold,
+        } = self.0;
+        write!(f, "{level}")?;
+        match charging {
+            Charging::No => f.write_str(", not charging")?,
+            Charging::Yes => f.write_str(", charging")?,
+            Charging::Unknown => f.write_str(", charging not known")?,
+            Charging::Charged => f.write_str(", charged")?,
+            Charging::Other(b) => write!(f, ", charging byte {b:02X}")?,
+        }
+        match threshold {
+            Some(threshold) => write!(f, ", threshold {threshold}"),
+            None => Ok(()),
         }
     }
 }
 
-pub fn in_decimal(rt: &impl Print, o: OptionByte, name: &[u8]) {
-    if let OptionByte::Byte(b) = o {
-        say(rt, name);
-        number(rt, b as usize);
-    }
-}
-
-fn in_digits(rt: &impl Print, o: OptionByte, name: &[u8]) {
-    if let OptionByte::Byte(b) = o {
-        say(rt, name);
-        byte(rt, b);
-    }
-}
-
-fn flag(rt: &impl Print, o: OptionFlag, name: &[u8]) {
-    if let OptionFlag::Flag(b) = o {
-        say(rt, name);
-        yes_or_no(rt, b);
-    }
-}
-
 // The fields in the order of their bytes.
-pub fn noise_report(rt: &impl Print, r: NoiseReport) {
-    let mode = r.mode;
-    let mode_byte = r.mode_byte;
-    let focus = r.focus_on_voice;
-    let level = r.ambient_level;
-    let adaptive = r.adaptive;
-    let sensitivity = r.adaptive_sensitivity;
-    noise_mode(rt, mode);
-    say(rt, b"; settled ");
-    yes_or_no(rt, r.settled);
-    in_digits(rt, mode_byte, b", mode byte ");
-    flag(rt, focus, b", focus on voice ");
-    in_decimal(rt, level, b", level ");
-    flag(rt, adaptive, b", adaptive ");
-    in_decimal(rt, sensitivity, b", sensitivity ");
-}
+#[derive(Clone, Copy)]
+pub struct Noise(pub NoiseReport);
 
-fn noise_mode(rt: &impl Print, m: NoiseMode) {
-    match m {
-        NoiseMode::Off => say(rt, b"noise control off"),
-        NoiseMode::Anc => say(rt, b"noise control cancelling"),
-        NoiseMode::Ambient => say(rt, b"noise control ambient"),
+impl fmt::Display for Noise {
+    fn fmt<W: fmt::Write>(&self, f: &mut fmt::Formatter<W>) -> fmt::Result {
+        let r = self.0;
+        let mode = match r.mode {
+            NoiseMode::Off => "off",
+            NoiseMode::Anc => "cancelling",
+            NoiseMode::Ambient => "ambient",
+        };
+        write!(f, "noise control {mode}; settled {}", yes_or_no(r.settled))?;
+        if let Some(b) = r.mode_byte {
+            write!(f, ", mode byte {b:02X}")?;
+        }
+        if let Some(on) = r.focus_on_voice {
+            write!(f, ", focus on voice {}", yes_or_no(on))?;
+        }
+        if let Some(level) = r.ambient_level {
+            write!(f, ", level {level}")?;
+        }
+        if let Some(on) = r.adaptive {
+            write!(f, ", adaptive {}", yes_or_no(on))?;
+        }
+        if let Some(sensitivity) = r.adaptive_sensitivity {
+            write!(f, ", sensitivity {sensitivity}")?;
+        }
+        Ok(())
     }
 }
 
-pub fn capability_report(rt: &impl Print, kind: u8, r: CapabilityReport) {
-    let count = r.count;
-    let ranges = r.ranges;
-    say(rt, b"noise control capability of kind ");
-    byte(rt, kind);
-    say(rt, b", ");
-    counted(rt, count, b"range");
-    if count > 0 {
-        range(rt, ranges[0]);
-    }
-    if count > 1 {
-        range(rt, ranges[1]);
-    }
+#[derive(Clone, Copy)]
+pub struct Capability {
+    pub kind: u8,
+    pub report: CapabilityReport,
 }
 
-fn range(rt: &impl Print, r: AmbientRange) {
-    row(rt);
-    say(rt, b"focus on voice ");
-    yes_or_no(rt, r.voice);
-    say(rt, b": level ");
-    number(rt, r.min as usize);
-    say(rt, b" to ");
-    number(rt, r.max as usize);
-    say(rt, b" by ");
-    number(rt, r.step as usize);
+impl fmt::Display for Capability {
+    fn fmt<W: fmt::Write>(&self, f: &mut fmt::Formatter<W>) -> fmt::Result {
+        let Capability { kind, report } = *self;
+        let count = report.count;
+        write!(
+            f,
+            "noise control capability of kind {kind:02X}, {}",
+            Counted(count, "range")
+        )?;
+        for range in report.ranges.iter().take(count) {
+            let AmbientRange {
+                voice,
+                min,
+                max,
+                step,
+            } = *range;
+            let focus = yes_or_no(voice);
+            write!(
+                f,
+                "{ROW}focus on voice {focus}: level {min} to {max} by {step}"
+            )?;
+        }
+        Ok(())
+    }
 }

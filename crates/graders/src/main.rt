@@ -20,103 +20,66 @@ mod shown;
 mod spans;
 mod sums;
 
-use misreadings::misread;
-use parse::{Given, Word, complain, parsed, trimmed, word_of};
-use say::{byte_at, bytes, number, part, say};
-use shown::heading;
+use misreadings::{length_first, level_first, restarted, stars_first};
+use parse::{Word, parsed, trimmed, word_of};
+use say::Bytes;
+use shown::Heading;
 use spans::each_span;
-use std::io::Read;
+use std::io::{self, Read};
 use sums::sums;
+
+// What is lent to the calls on a line's bytes.
+#[derive(Drop)]
+pub struct Buffers {
+    store: [u8; 12288],
+    plan: [u8; 512],
+    work: [u8; 12288],
+    out: [u8; 49152],
+}
 
 // A frame has at most the bytes of the longest span that the log is sure to have; the other sizes are those of `outlog`.
 fn main(rt: HostRuntime) {
     let mut input = replay::room();
-    let room = input.len();
-    let mut frame = [0u8; 8193];
-    let mut store = [0u8; 12288];
-    let mut work = [0u8; 12288];
-    let mut out = [0u8; 49152];
+    let mut frame = [0; 8193];
+    let mut buffers = Buffers {
+        store: [0; 12288],
+        plan: masked_log::house_plan(),
+        work: [0; 12288],
+        out: [0; 49152],
+    };
     let mut stdin = rt.stdin();
-    try_input(&rt, &mut stdin);
-    let n = replay::read_full(&mut stdin, &mut input);
-    each(
-        &rt,
-        &input[..n],
-        is_cut(&mut stdin, n, room),
-        &mut frame,
-        &mut store,
-        &mut work,
-        &mut out,
-    );
-}
-
-// Reads nothing, to tell a standard input that cannot be read from one that is empty.
-fn try_input<R: Read>(rt: &impl Eprint, from: &mut R) {
-    let mut one = [0u8; 1];
-    if from.read(&mut one[..0]).is_err() {
+    // Reads nothing, to tell a standard input that cannot be read from one that is empty.
+    if stdin.read(&mut []).is_err() {
         let _ = rt.eprintln("graders: cannot read standard input");
     }
+    let n = replay::read_full(&mut stdin, &mut input);
+    let cut = n == input.len() && stdin.read(&mut [0]).unwrap_or(0) > 0;
+    let _ = each(&rt, &input[..n], cut, &mut frame, &mut buffers);
 }
 
-// Whether standard input has more than was read.
-fn is_cut<R: Read>(from: &mut R, n: usize, room: usize) -> bool {
-    if n < room {
-        return false;
-    }
-    let mut one = [0u8; 1];
-    from.read(&mut one).unwrap_or(0) > 0
-}
-
-// No line is shorter than a byte, so there are no more turns than bytes.
+// Standard input may have more than was read; then a line without its end is cut.
 fn each(
     rt: &impl Print,
     input: &[u8],
     cut: bool,
     frame: &mut [u8],
-    store: &mut [u8],
-    work: &mut [u8],
-    out: &mut [u8],
-) {
-    let mut at = 0;
-    let mut line = 1;
-    let mut turns = input.len();
-    while turns > 0 {
-        let next = replay::next_line(input, at);
-        if !is_whole(input, at, next, cut) {
+    buffers: &mut Buffers,
+) -> io::Result<()> {
+    let mut nth: usize = 1;
+    for line in input.split_inclusive(|&b| b == b'\n') {
+        if cut && !line.ends_with(b"\n") {
             break;
         }
-        one_line(rt, line, stretch(input, at, next), frame, store, work, out);
-        at = next;
-        line = std::num::wrapping_add_usize(line, 1);
-        turns -= 1;
+        one_line(rt, nth, line, frame, buffers)?;
+        nth = nth.saturating_add(1);
     }
     if cut {
-        not_read(rt, line, input.len());
+        let room = input.len();
+        println!(rt;
+            "what is wrong: line {nth} and those behind it are not read, since standard input has more than {room} bytes"
+        )?;
     }
-}
-
-// The bytes from a place up to the next.
-fn stretch(input: &[u8], at: usize, next: usize) -> &[u8] {
-    part(input, at, std::num::wrapping_sub_usize(next, at))
-}
-
-// Whether a line is there and, where the input was cut, has its end.
-fn is_whole(input: &[u8], at: usize, next: usize, cut: bool) -> bool {
-    if at >= input.len() {
-        return false;
-    }
-    !cut || byte_at(input, std::num::wrapping_sub_usize(next, 1)) == b'\n'
-}
-
-fn not_read(rt: &impl Print, line: usize, room: usize) {
-    say(rt, b"what is wrong: line ");
-    number(rt, line);
-    say(
-        rt,
-        b" and those behind it are not read, since standard input has more than ",
-    );
-    number(rt, room);
-    say(rt, b" bytes\n");
+    Ok(())
 }
 
 fn one_line(
@@ -124,38 +87,33 @@ fn one_line(
     nth: usize,
     line: &[u8],
     frame: &mut [u8],
-    store: &mut [u8],
-    work: &mut [u8],
-    out: &mut [u8],
-) {
+    buffers: &mut Buffers,
+) -> io::Result<()> {
     let text = trimmed(line);
-    let word = word_of(text);
-    if let Word::NoWord = word {
-        heading(rt, text);
-        return;
-    }
+    let Some(word) = word_of(text) else {
+        return println!(rt; "{}", Heading(text));
+    };
     match parsed(text, frame) {
-        Given::Bytes(n) => example(rt, word, part(frame, 0, n), store, work, out),
-        Given::Wrong(fault) => complain(rt, nth, fault),
+        Ok(given) => example(rt, word, given, buffers),
+        Err(fault) => println!(rt; "what is wrong: line {nth}{fault}"),
     }
 }
 
-fn example(
-    rt: &impl Print,
-    word: Word,
-    given: &[u8],
-    store: &mut [u8],
-    work: &mut [u8],
-    out: &mut [u8],
-) {
-    let plan = masked_log::house_plan();
-    say(rt, b"bytes  ");
-    bytes(rt, given);
-    say(rt, b"\n");
-    if let Word::Sum = word {
-        sums(rt, given);
-        return;
+fn example(rt: &impl Print, word: Word, given: &[u8], buffers: &mut Buffers) -> io::Result<()> {
+    println!(rt; "bytes  {}", Bytes(given))?;
+    if word == Word::Sum {
+        return sums(rt, given);
     }
-    misread(rt, word, given, &plan, work);
-    each_span(rt, given, &plan, store, work, out);
+    if word != Word::Frame {
+        print!(rt; "wrong  ")?;
+    }
+    let Buffers { plan, work, .. } = buffers;
+    match word {
+        Word::Start => restarted(rt, given, plan, work)?,
+        Word::Length => length_first(rt, given, work)?,
+        Word::Noise => level_first(rt, given, plan, work)?,
+        Word::Masked => stars_first(rt, given, plan, work)?,
+        Word::Frame | Word::Sum => {}
+    }
+    each_span(rt, given, buffers)
 }

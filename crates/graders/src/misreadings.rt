@@ -1,184 +1,119 @@
 // The misreadings of docs/GRADERS.md, each of the first span.
-use crate::counts::devices_report;
-use crate::levels::in_decimal;
-use crate::parse::Word;
-use crate::readings::unpacked;
-use crate::rules::refusal;
-use crate::say::{byte_at, from_to, part, say};
-use frame::{Refusal, Written};
-use paired::PairedDevices;
-use payload::NoiseAnswer;
-use scanner::Sight;
+use crate::counts::Devices;
+use crate::readings::Unpacked;
+use crate::rules::Refused;
+use crate::say::{FromTo, part};
+use base::Refusal;
+use replay::{behind, first};
+use scanner::{Sight, seek};
+use std::io;
 
 // Entries of a plan.
 const NOISE: u8 = 2;
 
 const PAIRED: u8 = 5;
 
-// The length of a payload in the work area.
-#[derive(Clone, Copy)]
-enum Body {
-    Payload(usize),
-    NoBody,
-}
-
-pub fn misread(rt: &impl Print, word: Word, given: &[u8], plan: &[u8], work: &mut [u8]) {
-    if let Word::Frame = word {
-        return;
-    }
-    say(rt, b"wrong  ");
-    misreading(rt, word, given, plan, work);
-    say(rt, b"\n");
-}
-
-fn misreading(rt: &impl Print, word: Word, given: &[u8], plan: &[u8], work: &mut [u8]) {
-    match word {
-        Word::Start => restarted(rt, given, plan, work),
-        Word::Length => length_first(rt, given, work),
-        Word::Noise => level_first(rt, given, plan, work),
-        Word::Masked => stars_first(rt, given, plan, work),
-        _ => {}
-    }
-}
-
 // A reader who begins again at the next start byte.
-fn restarted(rt: &impl Print, given: &[u8], plan: &[u8], work: &mut [u8]) {
-    match scanner::seek(given) {
-        Sight::Both { at, len } => inner(
-            rt,
-            given,
-            std::num::wrapping_add_usize(at, 1),
-            len,
-            plan,
-            work,
-        ),
-        _ => say(rt, b"there is no span to misread"),
-    }
-}
-
-// What begins at the next start byte of a span of so many bytes, whose own is the last of those skipped.
-fn inner(rt: &impl Print, given: &[u8], skipped: usize, len: usize, plan: &[u8], work: &mut [u8]) {
-    let left = std::num::wrapping_sub_usize(given.len(), skipped);
-    let rest = part(given, skipped, left);
-    if let Sight::Both { at, len: found } = scanner::seek(rest) {
-        if std::num::wrapping_add_usize(at, 1) < len {
-            say(rt, b"a new frame begins at the 3E inside: ");
-            from_to(rt, std::num::wrapping_add_usize(skipped, at), found);
-            say(rt, b", ");
-            unpacked(rt, part(rest, at, found), plan, work);
-            return;
+pub fn restarted(rt: &impl Print, given: &[u8], plan: &[u8], work: &mut [u8]) -> io::Result<()> {
+    let Sight::Both { at, len } = seek(given) else {
+        return println!(rt; "there is no span to misread");
+    };
+    // the span's own start byte is the last of those skipped
+    let skipped = at.saturating_add(1);
+    let rest = behind(given, skipped);
+    match seek(rest) {
+        Sight::Both { at, len: found } if at.saturating_add(1) < len => {
+            let place = FromTo {
+                before: skipped.saturating_add(at),
+                len: found,
+            };
+            let inner = Unpacked::new(part(rest, at, found), plan, work);
+            println!(rt; "a new frame begins at the 3E inside: {place}, {inner}")
         }
-    }
-    say(rt, b"there is no 3E inside to misread");
-}
-
-// The body of the first span goes to the work area, its checksum and length untested.
-fn untested(given: &[u8], work: &mut [u8]) -> Body {
-    match scanner::seek(given) {
-        Sight::Both { at, len } => body_of(part(given, at, len), work),
-        _ => Body::NoBody,
+        _ => println!(rt; "there is no 3E inside to misread"),
     }
 }
 
-fn body_of(span: &[u8], work: &mut [u8]) -> Body {
-    let n = span.len();
-    if n < 2 {
-        return Body::NoBody;
+// What a span's body says, its checksum and length untested.
+#[derive(Clone, Copy)]
+struct Body<'a> {
+    kind: u8,
+    declared: usize,
+    payload: &'a [u8],
+}
+
+impl Body<'_> {
+    fn has_entry(self, plan: &[u8], entry: u8) -> bool {
+        self.payload
+            .first()
+            .is_some_and(|&command| plan::entry(plan, self.kind, command) == entry)
     }
-    match frame::unescape(&span[1..n - 1], work) {
-        Written::Bytes(len) => {
-            if len < 7 {
-                return Body::NoBody;
-            }
-            Body::Payload(len - 7)
-        }
-        Written::Refused(_) => Body::NoBody,
-    }
+}
+
+// The body of the first span goes to the work area.
+fn untested<'a>(given: &[u8], work: &'a mut [u8]) -> Option<Body<'a>> {
+    let Sight::Both { at, len } = seek(given) else {
+        return None;
+    };
+    let [_, escaped @ .., _] = part(given, at, len) else {
+        return None;
+    };
+    let n = frame::unescape(escaped, work).ok()?;
+    let [kind, _, a, b, c, d, payload @ .., _] = first(work, n) else {
+        return None;
+    };
+    Some(Body {
+        kind: *kind,
+        declared: u32::from_be_bytes([*a, *b, *c, *d]) as usize,
+        payload,
+    })
 }
 
 // A reader who tests the length and not the checksum.
-fn length_first(rt: &impl Print, given: &[u8], work: &mut [u8]) {
-    match untested(given, work) {
-        Body::Payload(actual) => compare(rt, declared_len(work), actual),
-        Body::NoBody => say(rt, b"there is no length to misread"),
-    }
-}
-
-fn compare(rt: &impl Print, declared: usize, actual: usize) {
+pub fn length_first(rt: &impl Print, given: &[u8], work: &mut [u8]) -> io::Result<()> {
+    let Some(
+        Body {
+            declared,
+            payload,
+            ..
+        },
+    ) = untested(given, work)
+    else {
+        return println!(rt; "there is no length to misread");
+    };
+    let actual = payload.len();
     if declared == actual {
-        say(rt, b"the length fits");
-    } else {
-        refusal(rt, Refusal::LengthMismatch { declared, actual });
+        return println!(rt; "the length fits");
     }
-}
-
-fn at_256(high: usize, low: u8) -> usize {
-    high % 16777216 * 256 + low as usize
-}
-
-fn declared_len(body: &[u8]) -> usize {
-    let two = at_256(byte_at(body, 2) as usize, byte_at(body, 3));
-    let three = at_256(two, byte_at(body, 4));
-    at_256(three, byte_at(body, 5))
-}
-
-// The plan's entry for a body in the work area with a payload of so many bytes.
-fn entry_of(plan: &[u8], body: &[u8], len: usize) -> u8 {
-    if len == 0 {
-        return 0;
-    }
-    plan::entry(plan, byte_at(body, 0), byte_at(body, 6))
+    println!(rt; "{}", Refused(Refusal::LengthMismatch { declared, actual }))
 }
 
 // A reader to whom a level means ambient.
-fn level_first(rt: &impl Print, given: &[u8], plan: &[u8], work: &mut [u8]) {
-    match untested(given, work) {
-        Body::Payload(len) => ambient(rt, entry_of(plan, work, len), part(work, 6, len)),
-        Body::NoBody => no_report(rt),
+pub fn level_first(rt: &impl Print, given: &[u8], plan: &[u8], work: &mut [u8]) -> io::Result<()> {
+    let report = untested(given, work)
+        .filter(|body| body.has_entry(plan, NOISE))
+        .and_then(|body| payload::decode_noise(body.payload).ok());
+    match report {
+        Some(report) => match report.ambient_level {
+            Some(level) => println!(rt; "ambient level {level}"),
+            None => println!(rt; "ambient"),
+        },
+        None => println!(rt; "there is no noise control report to misread"),
     }
-}
-
-fn ambient(rt: &impl Print, entry: u8, payload: &[u8]) {
-    if entry != NOISE {
-        no_report(rt);
-        return;
-    }
-    match payload::decode_noise(payload) {
-        NoiseAnswer::Report(r) => {
-            let level = r.ambient_level;
-            say(rt, b"ambient");
-            in_decimal(rt, level, b" level ");
-        }
-        NoiseAnswer::Refused(_) => no_report(rt),
-    }
-}
-
-fn no_report(rt: &impl Print) {
-    say(rt, b"there is no noise control report to misread");
 }
 
 // A reader who looks at the stars and not at the checksum.
-fn stars_first(rt: &impl Print, given: &[u8], plan: &[u8], work: &mut [u8]) {
-    match untested(given, work) {
-        Body::Payload(len) => gone(rt, entry_of(plan, work, len), part(work, 6, len)),
-        Body::NoBody => no_phones(rt),
+pub fn stars_first(rt: &impl Print, given: &[u8], plan: &[u8], work: &mut [u8]) -> io::Result<()> {
+    let list = untested(given, work)
+        .filter(|body| body.has_entry(plan, PAIRED))
+        .and_then(|body| devices_in(body.payload));
+    match list {
+        Some(list) => println!(rt; "the phone is gone: {list}"),
+        None => println!(rt; "there is no list of phones to misread"),
     }
 }
 
-fn gone(rt: &impl Print, entry: u8, payload: &[u8]) {
-    if entry != PAIRED {
-        no_phones(rt);
-        return;
-    }
-    match paired::decode_paired_devices(payload) {
-        PairedDevices::Count(count) => {
-            say(rt, b"the phone is gone: ");
-            devices_report(rt, count as usize, payload);
-        }
-        PairedDevices::Refused(_) => no_phones(rt),
-    }
-}
-
-fn no_phones(rt: &impl Print) {
-    say(rt, b"there is no list of phones to misread");
+fn devices_in(payload: &[u8]) -> Option<Devices<'_>> {
+    let count = paired::decode_paired_devices(payload).ok()?;
+    Some(Devices { count, payload })
 }

@@ -1,95 +1,70 @@
-// What is printed: words, numbers, and bytes in hexadecimal, sixteen to a row.
-pub fn say(rt: &impl Print, words: &[u8]) {
-    replay::write_all(rt, words);
-}
-
-pub fn number(rt: &impl Print, n: usize) {
-    let _ = rt.print(n);
-}
-
-fn digit(n: u8) -> u8 {
-    let d = n % 16;
-    if d < 10 { 48 + d } else { 55 + d }
-}
-
-pub fn byte(rt: &impl Print, b: u8) {
-    let pair = [digit(b / 16), digit(b)];
-    say(rt, &pair);
-}
+// What is printed: counts, places, and bytes in hexadecimal, sixteen to a row.
+use replay::{behind, first};
+use std::fmt;
 
 // The next row below a label.
-pub fn row(rt: &impl Print) {
-    say(rt, b"\n       ");
-}
+pub const ROW: &str = "\n       ";
 
-// What stands before an item of a list: a blank, or a new row.
-pub fn gap(rt: &impl Print, i: usize) {
-    if i == 0 {
-        return;
-    }
-    if i % 16 == 0 {
-        row(rt);
-    } else {
-        say(rt, b" ");
+// What stands before an item of a list: nothing, a new row, or a blank.
+pub fn gap(i: usize) -> &'static str {
+    match i {
+        0 => "",
+        _ if i % 16 == 0 => ROW,
+        _ => " ",
     }
 }
 
-pub fn bytes(rt: &impl Print, s: &[u8]) {
-    let mut i = 0;
-    while i < s.len() {
-        gap(rt, i);
-        byte(rt, s[i]);
-        i += 1;
+#[derive(Clone, Copy)]
+pub struct Bytes<'a>(pub &'a [u8]);
+
+impl fmt::Display for Bytes<'_> {
+    fn fmt<W: fmt::Write>(&self, f: &mut fmt::Formatter<W>) -> fmt::Result {
+        for (i, b) in self.0.iter().enumerate() {
+            write!(f, "{}{b:02X}", gap(i))?;
+        }
+        Ok(())
     }
 }
 
-pub fn yes_or_no(rt: &impl Print, yes: bool) {
-    if yes {
-        say(rt, b"yes");
-    } else {
-        say(rt, b"no");
-    }
+pub fn yes_or_no(yes: bool) -> &'static str {
+    if yes { "yes" } else { "no" }
 }
 
 // So many of a thing.
-pub fn counted(rt: &impl Print, n: usize, thing: &[u8]) {
-    if n == 0 {
-        say(rt, b"no");
-    } else {
-        number(rt, n);
-    }
-    say(rt, b" ");
-    say(rt, thing);
-    if n != 1 {
-        say(rt, b"s");
+#[derive(Clone, Copy)]
+pub struct Counted(pub usize, pub &'static str);
+
+impl fmt::Display for Counted {
+    fn fmt<W: fmt::Write>(&self, f: &mut fmt::Formatter<W>) -> fmt::Result {
+        let Counted(n, thing) = *self;
+        match n {
+            0 => write!(f, "no {thing}s"),
+            1 => write!(f, "1 {thing}"),
+            _ => write!(f, "{n} {thing}s"),
+        }
     }
 }
 
-// Places are counted from 1 on.
-pub fn place(rt: &impl Print, i: usize) {
-    number(rt, std::num::wrapping_add_usize(i, 1));
+// A place by how many bytes stand before it: places are counted from 1 on.
+pub fn place(before: usize) -> usize {
+    before.saturating_add(1)
 }
 
 // So many bytes behind so many others.
-pub fn from_to(rt: &impl Print, before: usize, len: usize) {
-    say(rt, b"bytes ");
-    place(rt, before);
-    say(rt, b" to ");
-    number(rt, std::num::wrapping_add_usize(before, len));
+#[derive(Clone, Copy)]
+pub struct FromTo {
+    pub before: usize,
+    pub len: usize,
 }
 
-// So many bytes from a place on, or none where there are fewer.
+impl fmt::Display for FromTo {
+    fn fmt<W: fmt::Write>(&self, f: &mut fmt::Formatter<W>) -> fmt::Result {
+        let last = self.before.saturating_add(self.len);
+        write!(f, "bytes {} to {last}", place(self.before))
+    }
+}
+
+// So many bytes from a place on, as far as they are there.
 pub fn part(s: &[u8], at: usize, len: usize) -> &[u8] {
-    if s.len() < at {
-        return &s[..0];
-    }
-    if s.len() - at < len {
-        return &s[..0];
-    }
-    &s[at..at + len]
-}
-
-// The byte at a place, or 0 behind the end.
-pub fn byte_at(s: &[u8], i: usize) -> u8 {
-    if i < s.len() { s[i] } else { 0 }
+    first(behind(s, at), len)
 }

@@ -1,39 +1,46 @@
 // The readings of a setting in words: whether it is on, and what the headset calls it.
-use crate::say::{byte, part, row, say};
-use crate::shown::name;
+use crate::say::{ROW, part};
+use crate::shown::Name;
 use payload::GeneralSettingParam;
 use setting_info::{GeneralSetting, SettingText};
-use text::Characters;
+use std::fmt;
 
-pub fn setting_param(rt: &impl Print, p: GeneralSettingParam) {
-    of_slot(rt, p.slot);
-    if p.enabled {
-        say(rt, b" on");
-    } else {
-        say(rt, b" off");
+#[derive(Clone, Copy)]
+pub struct Setting(pub GeneralSettingParam);
+
+impl fmt::Display for Setting {
+    fn fmt<W: fmt::Write>(&self, f: &mut fmt::Formatter<W>) -> fmt::Result {
+        let GeneralSettingParam { slot, enabled } = self.0;
+        let state = if enabled { "on" } else { "off" };
+        write!(f, "setting of slot {slot:02X} {state}")
     }
 }
 
-fn of_slot(rt: &impl Print, slot: u8) {
-    say(rt, b"setting of slot ");
-    byte(rt, slot);
+#[derive(Clone, Copy)]
+pub struct SettingTexts<'a> {
+    pub setting: GeneralSetting,
+    pub payload: &'a [u8],
 }
 
-pub fn general_setting(rt: &impl Print, s: GeneralSetting, payload: &[u8]) {
-    let called = s.name;
-    let summary = s.summary;
-    of_slot(rt, s.slot);
-    text(rt, b"name ", called, payload);
-    text(rt, b"summary ", summary, payload);
+impl<'a> SettingTexts<'a> {
+    // The decoder takes none that is no text.
+    fn text(&self, t: SettingText) -> Name<'a> {
+        Name {
+            bytes: part(self.payload, t.offset, t.len),
+            characters: Some(t.characters),
+        }
+    }
 }
 
-// The decoder takes none that is no text.
-fn text(rt: &impl Print, label: &[u8], t: SettingText, payload: &[u8]) {
-    row(rt);
-    say(rt, label);
-    name(
-        rt,
-        part(payload, t.offset, t.len),
-        Characters::Number(t.characters),
-    );
+impl fmt::Display for SettingTexts<'_> {
+    fn fmt<W: fmt::Write>(&self, f: &mut fmt::Formatter<W>) -> fmt::Result {
+        let GeneralSetting {
+            slot,
+            name,
+            summary,
+        } = self.setting;
+        write!(f, "setting of slot {slot:02X}")?;
+        write!(f, "{ROW}name {}", self.text(name))?;
+        write!(f, "{ROW}summary {}", self.text(summary))
+    }
 }

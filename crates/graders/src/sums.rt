@@ -1,21 +1,14 @@
 // The checksum of bytes, and as it grows from the last of them to the first.
-use crate::say::{byte, gap, part, say};
+use crate::say::gap;
+use std::io;
 
-pub fn sums(rt: &impl Print, given: &[u8]) {
-    say(rt, b"sum    ");
-    byte(rt, frame::checksum(given));
-    say(rt, b"\nback   ");
-    from_end(rt, given);
-    say(rt, b"\n");
-}
-
-fn from_end(rt: &impl Print, given: &[u8]) {
-    let mut sum = 0u8;
-    let mut i = 0;
-    while i < given.len() {
-        sum = frame::checksum_from_end(sum, part(given, given.len() - 1 - i, 1));
-        gap(rt, i);
-        byte(rt, sum);
-        i += 1;
+pub fn sums(rt: &impl Print, given: &[u8]) -> io::Result<()> {
+    println!(rt; "sum    {:02X}", frame::checksum(given))?;
+    print!(rt; "back   ")?;
+    let mut sum = 0;
+    for (i, &b) in given.iter().rev().enumerate() {
+        sum = frame::checksum_from_end(sum, &[b]);
+        print!(rt; "{}{sum:02X}", gap(i))?;
     }
+    println!(rt)
 }

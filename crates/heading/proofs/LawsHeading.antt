@@ -1,9 +1,9 @@
 -- The header without a work area is unpack's, and how its loop goes. Assumes nothing.
 use Rattle.std.proofs.Common.{◌≡◌, ℕ, ◌+◌, ◌-◌, ◌<◌, ◌≤◌, Bool, true, false, eqb, ltb, List, [], ◌∷◌, length, get_or, drop, sym, refl, ap, ◌∙◌, add-one, drop_of_length-le, drop-cons, le-ltb}
-use Rattle.base.specs.Outcome.{Outcome, accepted, refused, pick, on_accepted}
+use Rattle.base.specs.Outcome.{accepted, refused, pick, on_accepted}
 use Rattle.escaping.specs.Escaping.{START, END, unescape_of}
-use Rattle.framing.specs.Framing.{header_of, inner, marked, then_checked, unpack_by, unpack_call}
-use Rattle.framing.proofs.LawsFraming.{mark_short, mark_start, mark_end, mark_next}
+use Rattle.framing.specs.Framing.{header_of, inner, inner_of, marked, then_checked, unpack_by, unpack_call}
+use Rattle.framing.proofs.LawsFraming.{mark_short, marked_good, marked_bad, told_of}
 use Rattle.heading.specs.Heading.{header_read}
 use Rattle.heading.specs.Pass.{step_of, end_of}
 use Rattle.heading.specs.declared.pass.Pass.{Pass}
@@ -38,30 +38,21 @@ head_marked : (f : List ℕ) → header_read f ≡ marked (λ n. refused n []) f
 unfolding header_read
 head_marked f = marked_through (on_accepted header_of) (λ n. refused n []) f (then_checked (unescape_of (inner f)))
 
--- the markers, each as unpack tries it
+-- the markers, as unpack tries them
 module _ (f : List ℕ) where
   pub head_short : length f < 9 → header_read f ≡ refused 8 []
   head_short h = head_marked f ∙ mark_short _ f _ h
 
-  module _ (h : 9 ≤ length f) where
-    pub head_start : (get_or f 0 0 ≡ START → ⊥) → header_read f ≡ refused 9 []
-    head_start n = head_marked f ∙ mark_start _ f _ h n
+  pub head_unmarked : {n : ℕ} {vs : List ℕ} → refused n vs ≡ inner_of f → header_read f ≡ refused n vs
+  head_unmarked m = let e = marked_bad (λ n. refused n []) f (on_accepted header_of (then_checked (unescape_of (inner f)))) m in head_marked f ∙ e.1 ∙ rw e.0
 
-    module _ (s : get_or f 0 0 ≡ START) where
-      pub head_no_end : (get_or f (length f - 1) 0 ≡ END → ⊥) → header_read f ≡ refused 10 []
-      head_no_end n = head_marked f ∙ mark_end _ f _ h s n
-
-      pub head_inner : get_or f (length f - 1) 0 ≡ END → header_read f ≡ on_accepted header_of (then_checked (unescape_of (inner f)))
-      head_inner e = head_marked f ∙ mark_next _ f _ h s e
+  pub head_inner : {bytes : List ℕ} → accepted bytes ≡ inner_of f → header_read f ≡ on_accepted header_of (then_checked (unescape_of bytes))
+  head_inner m = let e = marked_good (λ n. refused n []) f (on_accepted header_of (then_checked (unescape_of (inner f)))) m in head_marked f ∙ e.1 ∙ rw e.0
 
 -- the header that is read is what unpack answers in a work area that is long enough
-told_by : (o : Outcome (List ℕ)) (room : ℕ) → (unpack_by o room).answer ≡ on_accepted header_of o
-told_by (accepted body) room = refl
-told_by (refused n vs) room = refl
-
 pub header_unpacked : (f w : List ℕ) → length f - 2 ≤ length w → (unpack_call f w).answer ≡ header_read f
 unfolding unpack_call
 header_unpacked f w room =
     let o = then_checked (unescape_of (inner f)) in
     marked_through (λ e. e.answer) (λ n. record { answer = refused n []; work = w }) f (pick (ltb (length w) (length f - 2)) (record { answer = refused 11 []; work = w }) (unpack_by o (length w)))
-    ∙ rw (le-ltb (length w) (length f - 2) room, told_by o (length w)) (sym (head_marked f))
+    ∙ rw (le-ltb (length w) (length f - 2) room, told_of o (length w)) (sym (head_marked f))

@@ -3,14 +3,13 @@ use Rattle.std.proofs.Common.{◌≡◌, ℕ, zero, suc, ◌+◌, ◌-◌, ◌%�
 use lib.Seq.{get_or_at}
 use Rattle.base.specs.Outcome.{Outcome, accepted, refused, pick, on_accepted}
 use Rattle.base.specs.Sum.{total, checksum_of}
-use Rattle.base.specs.DataType.{from_wire}
 use Rattle.base.proofs.LawsTests.{by_eqb, by_ltb}
 use Rattle.base.proofs.LawsSum.{checksum_append}
 use Rattle.escaping.specs.Escaping.{SENTRY, then_byte, escapee_then, unescape_of, escapee_of}
 use Rattle.escaping.proofs.LawsUnescaping.{escapee, bad_escapee}
-use Rattle.framing.specs.Framing.{Header, header_of, length_of, summed, carried, body_checked, then_checked}
-use Rattle.heading.specs.Pass.{begun, awaiting, with_byte, declared_in, step_of, end_of}
-use Rattle.base.specs.declared.data_type.DataType.{DataType}
+use Rattle.framing.specs.Framing.{header_of, length_of, summed, carried, body_checked, then_checked}
+use Rattle.framing.specs.declared.framing.Header.{Header}
+use Rattle.heading.specs.Pass.{begun, awaiting, with_byte, step_of, end_of}
 use Rattle.heading.specs.declared.pass.Pass.{Pass}
 
 pub record Seen (done : List ℕ) (p : Pass) : Type 0 where
@@ -121,31 +120,6 @@ module _ (p : Pass) (b : ℕ) where
     pub step_plain : (b ≡ SENTRY → ⊥) → step_of p b ≡ accepted (with_byte p b)
     unfolding step_of
     step_plain n = rw (e, ne_eqb b SENTRY n)
-
--- how a pass ends
-module _ (p : Pass) where
-  pub end_trailing : p.sentry ≡ true → end_of p ≡ refused 12 []
-  unfolding end_of
-  end_trailing e = rw e
-
-  module _ (e : p.sentry ≡ false) where
-    pub end_short : p.count < 7 → end_of p ≡ refused 14 []
-    unfolding end_of
-    end_short h = rw (e, lt-ltb p.count 7 h)
-
-    module _ (h : 7 ≤ p.count) where
-      pub end_sum : (p.last ≡ p.sum → ⊥) → end_of p ≡ refused 15 (p.last ∷ p.sum ∷ [])
-      unfolding end_of
-      end_sum n = rw (e, le-ltb p.count 7 h, ne_eqb p.last p.sum n)
-
-      module _ (k : p.last ≡ p.sum) {len : ℕ} (l : len ≡ declared_in p) where
-        pub end_length : (len ≡ p.count - 7 → ⊥) → end_of p ≡ refused 16 (len ∷ (p.count - 7) ∷ [])
-        unfolding end_of
-        end_length n = rw (e, le-ltb p.count 7 h, eq-eqb p.last p.sum k, ← l, ne_eqb len (p.count - 7) n)
-
-        pub end_good : len ≡ p.count - 7 → {kind : DataType} → kind ≡ from_wire p.kind → end_of p ≡ accepted (record { kind = kind; seq = p.seq; len = len })
-        unfolding end_of
-        end_good m t = rw (e, le-ltb p.count 7 h, eq-eqb p.last p.sum k, ← l, eq-eqb len (p.count - 7) m, ← t, ← m)
 
 -- what the bytes that are left come to, from here
 abbrev and_then : {A B : Type 0} → Outcome A → (A → Outcome B) → Outcome B

@@ -1,13 +1,10 @@
 -- What is known of a body while the bytes between a frame's markers go by.
 use Rattle.std.specs.Prelude.{ℕ, ◌+◌, ◌-◌, ◌*◌, ◌%◌, true, false, [], ◌∷◌, ◌==◌, nat_lt}
 use Rattle.base.specs.Outcome.{Outcome, accepted, refused, pick}
-use Rattle.base.specs.Refusal.{refusal_told}
 use Rattle.base.specs.DataType.{from_wire}
 use Rattle.escaping.specs.Escaping.{SENTRY}
-use Rattle.framing.specs.Framing.{Header}
+use Rattle.framing.specs.declared.framing.Header.{Header}
 use Rattle.heading.specs.declared.pass.Pass.{Pass}
-use Rattle.heading.specs.declared.pass.Passed.{Passed}
-use Rattle.heading.specs.declared.pass.Passed.TheVariants.{More, Refused}
 
 -- nothing yet
 abbrev pub begun : Pass
@@ -55,10 +52,6 @@ step_of p b =
     (pick (b == SENTRY) (accepted (awaiting p))
     (accepted (with_byte p b)))
 
-abbrev pub passed_told : Passed → Outcome Pass
-passed_told (More p) = accepted p
-passed_told (Refused r) = refusal_told r
-
 -- "a four-byte length with the high byte first"
 abbrev pub declared_in : Pass → ℕ
 declared_in p = p.len0 * 16777216 + p.len1 * 65536 + p.len2 * 256 + p.len3
@@ -69,6 +62,6 @@ end_of p =
     pick p.sentry (refused 12 [])
     (pick (nat_lt p.count 7) (refused 14 [])
     (pick (p.last == p.sum)
-    (pick (declared_in p == p.count - 7) (accepted (record { kind = from_wire p.kind; seq = p.seq; len = p.count - 7 }))
+    (pick (declared_in p == p.count - 7) (accepted (record { data_type = from_wire p.kind; seq = p.seq; len = p.count - 7 }))
     (refused 16 (declared_in p ∷ (p.count - 7) ∷ [])))
     (refused 15 (p.last ∷ p.sum ∷ []))))

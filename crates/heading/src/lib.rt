@@ -5,4 +5,4 @@ mod heading;
 mod pass;
 
 pub use heading::read_header;
-pub use pass::{Pass, Passed};
+pub use pass::Pass;

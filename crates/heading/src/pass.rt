@@ -1,14 +1,14 @@
 // What is known of a body while the bytes between a frame's markers go by, so that no copy of it has to be made.
-ghost use Rattle.std.specs.Prelude.{◌≡◌, ◌==◌};
-ghost use Rattle.base.specs.Outcome.{pick};
-ghost use Rattle.framing.specs.Framing.{unpacked_told};
-ghost use Rattle.heading.specs.Pass.{begun, awaiting, with_byte, declared_in, step_of, passed_told, end_of};
+ghost use Rattle.std.specs.Prelude.{◌≡◌, OnErr};
+ghost use Rattle.heading.specs.Pass.{begun, with_byte, step_of, end_of};
+ghost use Rattle.base.specs.Outcome.{on_accepted};
+ghost use Rattle.base.specs.Refusal.{outcome_of};
 
 use base::{DataType, Refusal};
 use escaping::SENTRY;
-use framing::Unpacked;
+use framing::Header;
 
-#[derive(Clone, Copy)]
+#[derive(Clone, Copy, Debug, PartialEq, Eq)]
 pub struct Pass {
     // the byte before was a SENTRY, and the next one is its escapee
     pub sentry: bool,
@@ -24,79 +24,6 @@ pub struct Pass {
     // the sum of all but the last, and the last
     pub sum: u8,
     pub last: u8,
-}
-
-#[derive(Clone, Copy)]
-pub enum Passed {
-    More(Pass),
-    Refused(Refusal),
-}
-
-// The byte at a place of the header, as it was or as it comes now.
-fn placed(count: usize, place: usize, b: u8, was: u8) -> u8
-    ensures { result ≡ pick (count == place) b was }
-{
-    if count == place { b } else { was }
-}
-
-// One byte of the body more. Behind the header nothing is placed any more, which is most of a frame.
-fn with_byte(pass: Pass, b: u8) -> Pass
-    ensures { result ≡ with_byte pass b }
-{
-    let n = pass.count;
-    if n > 5 {
-        return Pass {
-            sentry: false,
-            count: std::num::wrapping_add_usize(n, 1),
-            kind: pass.kind,
-            seq: pass.seq,
-            len0: pass.len0,
-            len1: pass.len1,
-            len2: pass.len2,
-            len3: pass.len3,
-            sum: std::num::wrapping_add_u8(pass.sum, pass.last),
-            last: b,
-        };
-    }
-    Pass {
-        sentry: false,
-        count: std::num::wrapping_add_usize(n, 1),
-        kind: placed(n, 0, b, pass.kind),
-        seq: placed(n, 1, b, pass.seq),
-        len0: placed(n, 2, b, pass.len0),
-        len1: placed(n, 3, b, pass.len1),
-        len2: placed(n, 4, b, pass.len2),
-        len3: placed(n, 5, b, pass.len3),
-        sum: std::num::wrapping_add_u8(pass.sum, pass.last),
-        last: b,
-    }
-}
-
-fn awaiting(pass: Pass) -> Pass
-    ensures { result ≡ awaiting pass }
-{
-    Pass {
-        sentry: true,
-        count: pass.count,
-        kind: pass.kind,
-        seq: pass.seq,
-        len0: pass.len0,
-        len1: pass.len1,
-        len2: pass.len2,
-        len3: pass.len3,
-        sum: pass.sum,
-        last: pass.last,
-    }
-}
-
-// The length that the header declares.
-fn declared_len(pass: Pass) -> usize
-    ensures { result ≡ declared_in pass }
-{
-    (pass.len0 as usize) * 16777216
-        + (pass.len1 as usize) * 65536
-        + (pass.len2 as usize) * 256
-        + (pass.len3 as usize)
 }
 
 impl Pass {
@@ -117,49 +44,76 @@ impl Pass {
         }
     }
 
-    // One byte of the frame more.
-    pub fn step(self, b: u8) -> Passed
-        ensures { passed_told result ≡ step_of self b }
+    // One byte of the body more: the first six are the header's.
+    fn add(&mut self, b: u8)
+        ensures { self.new ≡ with_byte self.old b }
     {
-        if self.sentry {
-            return match b {
-                0x2C..=0x2E => Passed::More(with_byte(self, b + 16)),
-                _ => Passed::Refused(Refusal::BadEscapee(b)),
-            };
+        match self.count {
+            0 => self.kind = b,
+            1 => self.seq = b,
+            2 => self.len0 = b,
+            3 => self.len1 = b,
+            4 => self.len2 = b,
+            5 => self.len3 = b,
+            _ => {}
         }
-        if b == SENTRY {
-            return Passed::More(awaiting(self));
+        self.sentry = false;
+        self.count = self.count.wrapping_add(1);
+        self.sum = self.sum.wrapping_add(self.last);
+        self.last = b;
+    }
+
+    // One byte of the frame more, in place: a pass that is handed on by value is copied for each byte.
+    #[tactic(auto, unfolding(crate::specs::Pass::step_of))]
+    pub fn take(&mut self, b: u8) -> Result<(), Refusal>
+        ensures stepped { on_accepted (λ _. self.new) (outcome_of result) ≡ step_of self.old b }
+        ensures kept { OnErr result (self.new ≡ self.old) }
+    {
+        match (self.sentry, b) {
+            (true, 0x2C..=0x2E) => self.add(b + 16),
+            (true, _) => return Err(Refusal::BadEscapee(b)),
+            (false, SENTRY) => self.sentry = true,
+            (false, _) => self.add(b),
         }
-        Passed::More(with_byte(self, b))
+        Ok(())
+    }
+
+    // One byte of the frame more.
+    pub fn step(mut self, b: u8) -> Result<Pass, Refusal>
+        ensures { outcome_of result ≡ step_of self b }
+    {
+        self.take(b)?;
+        Ok(self)
     }
 
     // What the body comes to when no byte follows, the checksum tested before the length is believed.
-    pub fn end(self) -> Unpacked
-        ensures { unpacked_told result ≡ end_of self }
+    #[tactic(auto, unfolding(crate::specs::Pass::end_of))]
+    pub fn end(self) -> Result<Header, Refusal>
+        ensures { outcome_of result ≡ end_of self }
     {
         if self.sentry {
-            return Unpacked::Refused(Refusal::TrailingSentry);
+            return Err(Refusal::TrailingSentry);
         }
         let n = self.count;
         if n < 7 {
-            return Unpacked::Refused(Refusal::BodyTooShort);
+            return Err(Refusal::BodyTooShort);
         }
         let declared = self.last;
         let computed = self.sum;
         if declared != computed {
-            return Unpacked::Refused(Refusal::BadChecksum { declared, computed });
+            return Err(Refusal::BadChecksum { declared, computed });
         }
-        let len = declared_len(self);
+        let len = u32::from_be_bytes([self.len0, self.len1, self.len2, self.len3]) as usize;
         if len != n - 7 {
-            return Unpacked::Refused(Refusal::LengthMismatch {
+            return Err(Refusal::LengthMismatch {
                 declared: len,
                 actual: n - 7,
             });
         }
-        Unpacked::Frame {
+        Ok(Header {
             data_type: DataType::from_wire(self.kind),
             seq: self.seq,
             len,
-        }
+        })
     }
 }

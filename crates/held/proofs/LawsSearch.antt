@@ -1,21 +1,23 @@
 -- What the search for the markers finds.
-use Prim.Native.Nat.{ℕ, suc, ◌+◌, ◌-◌, ◌≤◌, ◌<◌}
+use Prim.Native.Nat.{ℕ, suc, ◌+◌, ◌≤◌, ◌<◌}
 use mathlib.Core.Path.{◌≡◌, refl, sym, ap, ◌∙◌}
 use mathlib.Core.Bool.{Bool, true, false}
 use mathlib.Core.List.{List, [], ◌∷◌, ◌++◌}
-use mathlib.Core.Option.{Option, none, some}
 use native.Mathlib.Omega.{arith}
 use native.Mathlib.Numerals.{add-one}
 use lib.Dec.{eqb}
 use lib.ListN.{length, take, drop, get_or, drop_of_length-le, length-append, length-drop, take-append-drop}
 use lib.Seq.{drop-cons, take-append_seam, drop-append_seam, drop-append-add, drop-append-le, take-append-le, append_snoc, length-take-le}
-use borrow.Author.Tests.{eq-eqb, ne_eqb, eqb-true}
+pub use Rattle.std.proofs.lemmas.List.{take_rest}
+use borrow.Author.Tests.{eq-eqb, eqb-true}
 pub use Rattle.escaping.proofs.LawsFree.{Free, free_append}
 use Rattle.base.specs.Outcome.{pick}
 use Rattle.held.specs.Spans.{START, END}
-use Rattle.held.specs.Search.{Parted, part, later, Seen, no_start, no_end, both, seen, seen_start, seen_end, Spot, span_of, spot_by, bytes_by, sight_by, sight_of, first_by, first_of}
+use Rattle.held.specs.Search.{Parted, part, later, Seen, no_start, no_end, both, seen, seen_start, seen_end, span_of, spot_by, bytes_by, sight_by, sight_of, first_by, first_of}
+use Rattle.held.specs.declared.search.Spot.{Spot}
 use Rattle.held.specs.declared.search.Sight.{Sight}
 use Rattle.held.specs.declared.search.Sight.TheVariants.{NoStart, NoEnd, Both}
+use Rattle.std.specs.Prelude.{Option, Some, None}
 
 pub free_after : (b : ℕ) (xs ys : List ℕ) → Free b (xs ++ ys) → Free b ys
 free_after b [] ys f = f
@@ -23,18 +25,18 @@ free_after b (x ∷ xs) ys f = free_after b xs ys f.1
 
 -- what a search answers, by cases of its answer
 abbrev pub Parts : ℕ → List ℕ → Option Parted → Type 0
-Parts b xs none = Free b xs
-Parts b xs (some p) = (xs ≡ p.before ++ (b ∷ p.rest)) × Free b p.before
+Parts b xs None = Free b xs
+Parts b xs (Some p) = (xs ≡ p.before ++ (b ∷ p.rest)) × Free b p.before
 
 parts_later : (b x : ℕ) (xs : List ℕ) → eqb x b ≡ false → (o : Option Parted) → Parts b xs o → Parts b (x ∷ xs) (later x o)
-parts_later b x xs e none f = (e, f)
-parts_later b x xs e (some p) f = (ap (λ (l : List ℕ). x ∷ l) f.0, (e, f.1))
+parts_later b x xs e None f = (e, f)
+parts_later b x xs e (Some p) f = (ap (λ (l : List ℕ). x ∷ l) f.0, (e, f.1))
 
 pub parts : (b : ℕ) (xs : List ℕ) → Parts b xs (part b xs)
 parts b [] = tt
 parts b (x ∷ xs) = let more = parts b xs in go more (eqb x b) refl
   where
-    go : Parts b xs (part b xs) → (t : Bool) → eqb x b ≡ t → Parts b (x ∷ xs) (pick t (some (record { before = []; rest = xs })) (later x (part b xs)))
+    go : Parts b xs (part b xs) → (t : Bool) → eqb x b ≡ t → Parts b (x ∷ xs) (pick t (Some (record { before = []; rest = xs })) (later x (part b xs)))
     go more true e = (ap (λ (y : ℕ). y ∷ xs) (eqb-true x b e), tt)
     go more false e = parts_later b x xs e (part b xs) more
 
@@ -42,19 +44,13 @@ parts b (x ∷ xs) = let more = parts b xs in go more (eqb x b) refl
 pub first_cons : (b x : ℕ) (xs : List ℕ) → first_of b (x ∷ xs) ≡ pick (eqb x b) 0 (suc (first_of b xs))
 first_cons b x xs = go (eqb x b) (part b xs)
   where
-    go : (t : Bool) (o : Option Parted) → first_by (suc (length xs)) (pick t (some (record { before = []; rest = xs })) (later x o)) ≡ pick t 0 (suc (first_by (length xs) o))
+    go : (t : Bool) (o : Option Parted) → first_by (suc (length xs)) (pick t (Some (record { before = []; rest = xs })) (later x o)) ≡ pick t 0 (suc (first_by (length xs) o))
     go true o = refl
-    go false none = refl
-    go false (some p) = refl
+    go false None = refl
+    go false (Some p) = refl
 
-first_drop : (b : ℕ) (s : List ℕ) (i : ℕ) → i < length s → first_of b (drop i s) ≡ pick (eqb (get_or s i 0) b) 0 (suc (first_of b (drop (i + 1) s)))
+pub first_drop : (b : ℕ) (s : List ℕ) (i : ℕ) → i < length s → first_of b (drop i s) ≡ pick (eqb (get_or s i 0) b) 0 (suc (first_of b (drop (i + 1) s)))
 first_drop b s i h = ap (first_of b) (drop-cons s i 0 h) ∙ rw add-one (first_cons b (get_or s i 0) (drop (suc i) s))
-
-pub first_step : (b : ℕ) (s : List ℕ) (i : ℕ) → i < length s → (get_or s i 0 ≡ b → ⊥) → i + first_of b (drop i s) ≡ i + 1 + first_of b (drop (i + 1) s)
-first_step b s i h n = omega (arith, rw (ne_eqb (get_or s i 0) b n) at (first_drop b s i h))
-
-pub first_here : (b : ℕ) (s : List ℕ) (i : ℕ) → i < length s → get_or s i 0 ≡ b → i + first_of b (drop i s) ≡ i
-first_here b s i h e = omega (arith, rw (eq-eqb (get_or s i 0) b e) at (first_drop b s i h))
 
 pub first_end : (b : ℕ) (s : List ℕ) (i : ℕ) → length s ≤ i → i + first_of b (drop i s) ≡ i
 first_end b s i h = rw (drop_of_length-le s h) (omega arith)
@@ -63,55 +59,52 @@ first_end b s i h = rw (drop_of_length-le s h) (omega arith)
 abbrev split_at : ℕ → List ℕ → Parted
 split_at i xs = record { before = take i xs; rest = drop (i + 1) xs }
 
-none_by : (b : ℕ) (xs : List ℕ) (o : Option Parted) → Parts b xs o → length xs ≤ first_by (length xs) o → o ≡ none
-none_by b xs none f h = refl
-none_by b xs (some p) f h = absurd (omega (arith, simp length-append at (ap length f.0)))
+none_by : (b : ℕ) (xs : List ℕ) (o : Option Parted) → Parts b xs o → length xs ≤ first_by (length xs) o → o ≡ None
+none_by b xs None f h = refl
+none_by b xs (Some p) f h = absurd (omega (arith, simp length-append at (ap length f.0)))
 
-some_by : (b : ℕ) (xs : List ℕ) (o : Option Parted) → Parts b xs o → first_by (length xs) o < length xs → o ≡ some (split_at (first_by (length xs) o) xs)
-some_by b xs none f h = absurd (omega arith)
-some_by b xs (some p) f h =
+some_by : (b : ℕ) (xs : List ℕ) (o : Option Parted) → Parts b xs o → first_by (length xs) o < length xs → o ≡ Some (split_at (first_by (length xs) o) xs)
+some_by b xs None f h = absurd (omega arith)
+some_by b xs (Some p) f h =
     rw (f.0, take-append_seam, drop-append-add)
 
 within_by : (b : ℕ) (xs : List ℕ) (o : Option Parted) → Parts b xs o → first_by (length xs) o ≤ length xs
-within_by b xs none f = omega arith
-within_by b xs (some p) f = omega (arith, simp length-append at (ap length f.0))
+within_by b xs None f = omega arith
+within_by b xs (Some p) f = omega (arith, simp length-append at (ap length f.0))
 
 pub first_within : (b : ℕ) (xs : List ℕ) → first_of b xs ≤ length xs
 first_within b xs = within_by b xs (part b xs) (parts b xs)
 
-not_there : (b : ℕ) (xs : List ℕ) → length xs ≤ first_of b xs → part b xs ≡ none
+not_there : (b : ℕ) (xs : List ℕ) → length xs ≤ first_of b xs → part b xs ≡ None
 not_there b xs h = none_by b xs (part b xs) (parts b xs) h
 
-there : (b : ℕ) (xs : List ℕ) (i : ℕ) → i ≡ first_of b xs → i < length xs → part b xs ≡ some (split_at i xs)
-there b xs i e h = some_by b xs (part b xs) (parts b xs) (rw (← e) h) ∙ ap (λ (n : ℕ). some (split_at n xs)) (sym e)
+there : (b : ℕ) (xs : List ℕ) (i : ℕ) → i ≡ first_of b xs → i < length xs → part b xs ≡ Some (split_at i xs)
+there b xs i e h = some_by b xs (part b xs) (parts b xs) (rw (← e) h) ∙ ap (λ (n : ℕ). Some (split_at n xs)) (sym e)
 
--- the two places give the sight
+-- the two searches give the sight
 module _ (held : List ℕ) where
   pub sees_no_start : length held ≤ first_of START held → NoStart ≡ sight_of held
   unfolding seen
   sees_no_start h = rw (not_there START held h)
 
-  module _ (at end : ℕ) (e : at ≡ 0 + first_of START held) (n : at ≡ length held → ⊥) (f : end ≡ at + 1 + first_of END (drop (at + 1) held)) where
-    start_within : at < length held
-    start_within = omega (arith, first_within START held)
+  module _ (at : ℕ) (h : at < length held) (e : at ≡ first_of START held) where
+    abbrev behind : List ℕ
+    behind = drop (at + 1) held
 
     before_start : length (take at held) ≡ at
-    before_start = length-take-le at held (omega (arith, start_within))
+    before_start = length-take-le at held (omega arith)
 
-    pub end_within : end ≤ length held
-    end_within = omega (arith, start_within, first_within END (drop (at + 1) held), length-drop (at + 1) held)
-
-    pub sees_no_end : end ≡ length held → NoEnd at ≡ sight_of held
+    pub sees_no_end : length behind ≤ first_of END behind → NoEnd at ≡ sight_of held
     unfolding seen
-    sees_no_end k = rw (there START held at (omega arith) start_within, not_there END (drop (at + 1) held) (omega (arith, length-drop (at + 1) held)), before_start)
+    sees_no_end k = rw (there START held at e h, not_there END behind k, before_start)
 
-    pub sees_both : (end ≡ length held → ⊥) → Both at (end + 1 - at) ≡ sight_of held
+    pub sees_both : (i : ℕ) → i < length behind → i ≡ first_of END behind → Both at (i + 2) ≡ sight_of held
     unfolding seen
-    sees_both k =
-        let i = end - (at + 1) in
-        let g : i < length (drop (at + 1) held) = omega (arith, end_within, length-drop (at + 1) held) in
-        let m : length (take i (drop (at + 1) held)) ≡ i = length-take-le i (drop (at + 1) held) (omega arith) in
-        rw (there START held at (omega arith) start_within, there END (drop (at + 1) held) i (omega arith) g, before_start, length-append, m) (ap (Both at) (omega arith))
+    sees_both i k f =
+        let m : length (take i behind) ≡ i = length-take-le i behind (omega arith) in
+        rw (there START held at e h, there END behind i f k, before_start, length-append, m) (ap (Both at) (omega arith))
+
+pub ruleset sights = (sees_no_start, sees_no_end, sees_both, take_rest)
 
 -- the held bytes, by what is seen of them
 abbrev pub Sees : List ℕ → Seen → Type 0
@@ -124,15 +117,15 @@ unfolding seen
 sees held = start (part START held) (parts START held)
   where
     behind : (before rest : List ℕ) → held ≡ before ++ (START ∷ rest) → Free START before → (o : Option Parted) → Parts END rest o → Sees held (seen_end before rest o)
-    behind before rest e f none g = (e, f, g)
-    behind before rest e f (some q) g = (e ∙ ap (λ (l : List ℕ). before ++ (START ∷ l)) g.0, f, g.1)
+    behind before rest e f None g = (e, f, g)
+    behind before rest e f (Some q) g = (e ∙ ap (λ (l : List ℕ). before ++ (START ∷ l)) g.0, f, g.1)
 
     start : (o : Option Parted) → Parts START held o → Sees held (seen_start o)
-    start none f = f
-    start (some p) f = behind p.before p.rest f.0 f.1 (part END p.rest) (parts END p.rest)
+    start None f = f
+    start (Some p) f = behind p.before p.rest f.0 f.1 (part END p.rest) (parts END p.rest)
 
 -- and the other way: these bytes are seen so
-part_free : (b : ℕ) (xs ys : List ℕ) → Free b xs → part b (xs ++ (b ∷ ys)) ≡ some (record { before = xs; rest = ys })
+part_free : (b : ℕ) (xs ys : List ℕ) → Free b xs → part b (xs ++ (b ∷ ys)) ≡ Some (record { before = xs; rest = ys })
 part_free b [] ys f = rw (eq-eqb b b refl)
 part_free b (x ∷ xs) ys f = rw (f.0, part_free b xs ys f.1)
 
@@ -142,8 +135,8 @@ seen_both before between rest f g = rw (part_free START before (between ++ (END 
 
 -- the spot of a span is where its bytes stand
 abbrev pub PartOf : List ℕ → List ℕ → Option Spot → Type 0
-PartOf held bytes none = bytes ≡ []
-PartOf held bytes (some sp) = (sp.at + sp.len ≤ length held) × (bytes ≡ take sp.len (drop sp.at held))
+PartOf held bytes None = bytes ≡ []
+PartOf held bytes (Some sp) = (sp.at + sp.len ≤ length held) × (bytes ≡ take sp.len (drop sp.at held))
 
 pub span_length : (before between rest : List ℕ) → length (before ++ (START ∷ between ++ (END ∷ rest))) ≡ length before + length (span_of between) + length rest
 span_length before between rest = simp length-append (omega arith)
@@ -158,8 +151,8 @@ spot_part held (both before between rest) f = (omega (arith, ap length f.0, span
 
 -- a part of the first bytes is a part of the whole
 pub part_whole : (xs held : List ℕ) (count : ℕ) → held ≡ take count xs → count ≤ length xs → (bytes : List ℕ) (o : Option Spot) → PartOf held bytes o → PartOf xs bytes o
-part_whole xs held count e k bytes none p = p
-part_whole xs held count e k bytes (some sp) p =
+part_whole xs held count e k bytes None p = p
+part_whole xs held count e k bytes (Some sp) p =
     let n : length held ≡ count = ap length e ∙ length-take-le count xs k in
     let x : xs ≡ held ++ drop count xs = rw (e, take-append-drop) in
     let y = ap (take sp.len) (drop-append-le sp.at held (drop count xs) (omega arith)) ∙ take-append-le sp.len (drop sp.at held) (drop count xs) (omega (arith, length-drop sp.at held)) in

@@ -1,10 +1,10 @@
 -- 01, "Scanner": "from the first START to the first END after it, among the held bytes only".
-use Rattle.std.specs.Prelude.{ℕ, List, [], ◌∷◌, ◌++◌, eqb, length}
-use Rattle.std.proofs.Math.Option.{Option, none, some}
+use Rattle.std.specs.Prelude.{ℕ, List, [], ◌∷◌, ◌++◌, eqb, length, Option, Some, None}
 use Rattle.base.specs.Outcome.{pick}
 use Rattle.held.specs.Spans.{START, END}
 use Rattle.held.specs.declared.search.Sight.{Sight}
 use Rattle.held.specs.declared.search.Sight.TheVariants.{NoStart, NoEnd, Both}
+use Rattle.held.specs.declared.search.Spot.{Spot}
 
 -- the bytes before the first b, and those after it
 pub record Parted : Type 0 where
@@ -12,12 +12,12 @@ pub record Parted : Type 0 where
   pub rest : List ℕ
 
 abbrev pub later : ℕ → Option Parted → Option Parted
-later x none = none
-later x (some p) = some (record { before = x ∷ p.before; rest = p.rest })
+later x None = None
+later x (Some p) = Some (record { before = x ∷ p.before; rest = p.rest })
 
 abbrev pub part : ℕ → List ℕ → Option Parted
-part b [] = none
-part b (x ∷ xs) = pick (eqb x b) (some (record { before = []; rest = xs })) (later x (part b xs))
+part b [] = None
+part b (x ∷ xs) = pick (eqb x b) (Some (record { before = []; rest = xs })) (later x (part b xs))
 
 -- no START; a START and no END behind it; or both, with the bytes before, between and behind them
 pub data Seen : Type 0 where
@@ -26,30 +26,26 @@ pub data Seen : Type 0 where
   both : (before between rest : List ℕ) → Seen
 
 abbrev pub seen_end : List ℕ → List ℕ → Option Parted → Seen
-seen_end before rest none = no_end before rest
-seen_end before rest (some q) = both before q.before q.rest
+seen_end before rest None = no_end before rest
+seen_end before rest (Some q) = both before q.before q.rest
 
 abbrev pub seen_start : Option Parted → Seen
-seen_start none = no_start
-seen_start (some p) = seen_end p.before p.rest (part END p.rest)
+seen_start None = no_start
+seen_start (Some p) = seen_end p.before p.rest (part END p.rest)
 
 -- the first START among the held bytes, and the first END after it
 unfoldable pub seen : List ℕ → Seen
 seen held = seen_start (part START held)
 
 -- a span of the held bytes: where it starts, and how long it is
-pub record Spot : Type 0 where
-  pub at : ℕ
-  pub len : ℕ
-
 -- the span with its markers
 abbrev pub span_of : List ℕ → List ℕ
 span_of between = START ∷ between ++ (END ∷ [])
 
 abbrev pub spot_by : Seen → Option Spot
-spot_by no_start = none
-spot_by (no_end before rest) = none
-spot_by (both before between rest) = some (record { at = length before; len = length (span_of between) })
+spot_by no_start = None
+spot_by (no_end before rest) = None
+spot_by (both before between rest) = Some (record { at = length before; len = length (span_of between) })
 
 abbrev pub bytes_by : Seen → List ℕ
 bytes_by no_start = []
@@ -70,8 +66,8 @@ sight_of held = sight_by (seen held)
 
 -- how many bytes stand before the first b; all, where there is none
 abbrev pub first_by : ℕ → Option Parted → ℕ
-first_by n none = n
-first_by n (some p) = length p.before
+first_by n None = n
+first_by n (Some p) = length p.before
 
 abbrev pub first_of : ℕ → List ℕ → ℕ
 first_of b xs = first_by (length xs) (part b xs)

@@ -5,4 +5,4 @@ mod going;
 mod search;
 
 pub use going::let_go;
-pub use search::{Sight, seek};
+pub use search::{Sight, Spot, seek};

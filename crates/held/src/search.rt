@@ -1,64 +1,55 @@
 // The first span among held bytes.
-ghost use Rattle.std.specs.Prelude.{◌≡◌, ◌+◌, ◌≤◌, ◌<◌, min, length, drop, eqb};
-ghost use Rattle.base.specs.Outcome.{pick};
+ghost use Rattle.std.specs.Prelude.{◌≡◌, ◌<◌, ◌≤◌, length, MatchOption};
 ghost use Rattle.held.specs.Search.{first_of, sight_of};
 
-use frame::{END, START, block_end};
+use frame::{END, START};
 
 // How many bytes are searched at once.
 const BLOCK: usize = 64;
 
-// `at` where `x` is `b`; else what lies behind every block.
-fn place_if(x: u8, b: u8, at: u8) -> u8
-    ensures { result ≡ pick (eqb x b) at 255 }
-{
-    if x == b { at } else { 255 }
-}
-
-fn lesser(x: u8, y: u8) -> u8
-    ensures { result ≡ min x y }
-{
-    if x < y { x } else { y }
-}
-
 // The first `b` of a block, or its length: the least of all places, since a loop that does not leave early vectorises.
+#[tactic(auto, using(crate::proofs::LawsFirst::places))]
 fn first_in(block: &[u8], b: u8) -> usize
     requires { length block.now ≤ 255 }
     ensures { result ≡ first_of b block.now }
 {
     let mut first = block.len() as u8;
-    let mut i = 0;
-    while i < block.len() {
-        first = lesser(first, place_if(block[i], b, i as u8));
-        i += 1;
+    for (i, &x) in block.iter().enumerate() {
+        // 255 lies behind every block
+        let place = if x == b { i as u8 } else { 255 };
+        first = first.min(place);
     }
-    first as usize
+    usize::from(first)
 }
 
-// The first `b` from `from` on, or the length.
-fn position(bytes: &[u8], from: usize, b: u8) -> usize
-    requires { from ≤ length bytes.now }
-    ensures { result ≡ from + first_of b (drop from bytes.now) }
+// Where the first `b` stands.
+#[tactic(auto, using(crate::proofs::LawsFirst::blocks))]
+fn position(bytes: &[u8], b: u8) -> Option<usize>
+    ensures { MatchOption result (length bytes.now ≤ first_of b bytes.now) (λ at. (at < length bytes.now) × (at ≡ first_of b bytes.now)) }
 {
     // spans mostly follow each other
-    if from < bytes.len() {
-        if bytes[from] == b {
-            return from;
-        }
+    if bytes.first() == Some(&b) {
+        return Some(0);
     }
-    let mut i = from;
-    while i < bytes.len() {
-        let end = block_end(i, bytes.len(), BLOCK);
-        let place = first_in(&bytes[i..end], b);
-        if place < end - i {
-            return i + place;
+    let mut passed = 0;
+    for block in bytes.chunks(BLOCK) {
+        let place = first_in(block, b);
+        if place < block.len() {
+            return Some(passed + place);
         }
-        i = end;
+        passed += block.len();
     }
-    i
+    None
 }
 
-#[derive(Clone, Copy)]
+// Where a span stands.
+#[derive(Clone, Copy, PartialEq, Eq, Debug)]
+pub struct Spot {
+    pub at: usize,
+    pub len: usize,
+}
+
+#[derive(Clone, Copy, PartialEq, Eq, Debug)]
 pub enum Sight {
     NoStart,
     NoEnd(usize),
@@ -66,19 +57,18 @@ pub enum Sight {
 }
 
 // The first span of these bytes, or as much of one as there is.
+#[tactic(auto, using(crate::proofs::LawsSearch::sights))]
 pub fn seek(held: &[u8]) -> Sight
     ensures { result ≡ sight_of held.now }
 {
-    let at = position(held, 0, START);
-    if at == held.len() {
+    let Some(at) = position(held, START) else {
         return Sight::NoStart;
-    }
-    let end = position(held, at + 1, END);
-    if end == held.len() {
+    };
+    let Some(between) = position(&held[at + 1..], END) else {
         return Sight::NoEnd(at);
-    }
+    };
     Sight::Both {
-        at: at,
-        len: end + 1 - at,
+        at,
+        len: between + 2,
     }
 }

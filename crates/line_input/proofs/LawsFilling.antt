@@ -1,12 +1,10 @@
 -- The buffer while its bytes move to the front, and behind a read. Assumes nothing.
-use Prim.Native.Nat.{ℕ, ◌+◌, ◌-◌, ◌≤◌, ◌<◌, min}
-use mathlib.Core.Path.{◌≡◌, sym, ap, ◌∙◌}
-use mathlib.Core.List.{List, ◌++◌}
-use native.Mathlib.Nat.{zero-add}
-use native.Mathlib.Omega.{arith}
-use native.Mathlib.Numerals.{add-one}
-use lib.ListN.{length, take, drop, get_or, set, length-take, drop_of_length-le}
-use lib.Seq.{take_all, take-take, take_at, paste-suc, slice, length-slice, length-take-le, get_or-append-add, get_or-drop, get_or-take}
+use Rattle.std.proofs.Common.{◌≡◌, ℕ, ◌+◌, ◌-◌, ◌≤◌, min, List, length, take, drop, sym, ap, ◌∙◌, arith, length-drop, drop_of_length-le}
+use Rattle.std.specs.List.{copy_within}
+use Rattle.std.proofs.lemmas.List.{drop-take}
+use Rattle.std.proofs.lemmas.List.Edits.{take-paste}
+use lib.ListN.{length-take}
+use lib.Seq.{take-take, take_at, slice, length-slice, length-take-le}
 use borrow.Rule.Slice.PartMut.{put_mid}
 use Rattle.base.proofs.LawsTests.{by_ltb}
 use Rattle.base.proofs.LawsWriting.{put_rest}
@@ -15,33 +13,17 @@ use Rattle.line_input.specs.State.{held_of}
 use Rattle.line_input.specs.Filling.{at_front, Filled}
 use Rattle.line_input.proofs.LawsFinding.{take_short}
 
--- the first i bytes of a part are at the front
-abbrev pub shifted : List ℕ → (from to i : ℕ) → List ℕ
-shifted buf from to i = take i (slice from to buf) ++ drop i buf
-
 pub shift_none : (buf : List ℕ) (from to : ℕ) → from ≡ 0 → take (to - from) buf ≡ slice from to buf
 shift_none buf from to e = let z : to - 0 ≡ to = omega arith in rw (e, z)
 
-module _ (buf : List ℕ) (from to : ℕ) (h : to ≤ length buf) where
-  part_length : length (slice from to buf) ≡ to - from
-  part_length = length-slice from to buf h
-
-  -- the byte that a turn reads is as it was at first
-  shift_read : (i : ℕ) → from + i < to → get_or (shifted buf from to i) (from + i) 0 ≡ get_or (slice from to buf) i 0
-  shift_read i k =
-      let front = length-take-le i (slice from to buf) (rw part_length (omega arith)) in
-      let e : from + i ≡ length (take i (slice from to buf)) + from = rw front (omega arith) in
-      let f : i + from ≡ from + i = omega arith in
-      ap (λ (n : ℕ). get_or (shifted buf from to i) n 0) e ∙ get_or-append-add (take i (slice from to buf)) (drop i buf) from 0 ∙ get_or-drop i buf from 0
-      ∙ ap (λ (n : ℕ). get_or buf n 0) f ∙ sym (get_or-drop from (take to buf) i 0 ∙ get_or-take to buf (from + i) 0 k)
-
-  pub shift_step : (i : ℕ) → from + i < to → {now : List ℕ} → now ≡ shifted buf from to i → set now i (get_or now (from + i) 0) ≡ shifted buf from to (i + 1)
-  shift_step i k {now} p = rw (p, shift_read i k, add-one) (simp zero-add at (paste-suc buf 0 (slice from to buf) i 0 (omega arith) (rw part_length (omega arith))))
-
-  pub shift_end : (i : ℕ) → i ≡ to - from → {now : List ℕ} → now ≡ shifted buf from to i → take (to - from) now ≡ slice from to buf
-  shift_end i e {now} p =
-      let all = take_all i (slice from to buf) (rw part_length (omega arith)) in
-      rw (p, all) (take_at (slice from to buf) (drop i buf) (to - from) part_length)
+-- a part is copied to the front
+pub shift_all : (buf : List ℕ) (from to : ℕ) → from ≤ to → to ≤ length buf → take (to - from) (copy_within buf from to 0) ≡ slice from to buf
+shift_all buf from to h k =
+    let n = to - from in
+    let e : from + n ≡ to = omega arith in
+    let z : n ≡ 0 + n = omega arith in
+    ap (λ (m : ℕ). take m (copy_within buf from to 0)) z ∙ take-paste buf 0 (drop from buf) n (omega arith) (omega (arith, length-drop from buf))
+    ∙ sym (drop-take from n buf) ∙ ap (λ (m : ℕ). drop from (take m buf)) e
 
 drop_short : (n : ℕ) (xs : List ℕ) → drop (min n (length xs)) xs ≡ drop n xs
 drop_short n xs =

@@ -2,9 +2,9 @@
 ghost use Rattle.std.specs.Prelude.{◌≡◌, max, length, drop};
 ghost use Rattle.line_input.specs.Finding.{Lies, newline_at, line_end, line_done, skips_to, passed, fills_all, too_long, line_of, at_end, waiting_of, unfinished_of, next_of};
 
-use crate::state::{Input, least};
+use crate::state::Input;
 
-#[derive(Clone, Copy)]
+#[derive(Clone, Copy, Debug, PartialEq, Eq)]
 pub enum Next {
     // It lies in the buffer between these places, its newline included; the last line of all may be without one.
     Line { number: u64, from: usize, to: usize },
@@ -17,16 +17,10 @@ pub enum Next {
     Failed,
 }
 
-#[derive(Clone, Copy)]
+#[derive(Clone, Copy, Debug, PartialEq, Eq)]
 pub struct Step {
     pub next: Next,
     pub input: Input,
-}
-
-fn most(x: usize, y: usize) -> usize
-    ensures { result ≡ max x y }
-{
-    if x < y { y } else { x }
 }
 
 // The place behind the first newline from a place on; 0 where there is none.
@@ -34,50 +28,49 @@ fn most(x: usize, y: usize) -> usize
 fn newline(held: &[u8], from: usize) -> usize
     ensures { result ≡ newline_at from (drop from held.now) }
 {
-    let mut i = from;
-    while i < held.len() {
-        let b = held[i];
-        i += 1;
-        if b == b'\n' {
-            return i;
+    for i in from..held.len() {
+        if held[i] == b'\n' {
+            return i + 1;
         }
     }
     0
 }
 
 // The place behind the newline of the line that has begun; 0 where it is not held.
+#[tactic(auto, unfolding(crate::specs::Finding::line_end))]
 fn line_end(input: Input, held: &[u8]) -> usize
     ensures { result ≡ line_end input held.now }
 {
-    newline(held, most(input.at, input.seen))
+    newline(held, input.at.max(input.seen))
 }
 
 // The line has ended before a place, and the next one begins there.
 fn line_done(input: Input, to: usize) -> Input
     ensures { result ≡ line_done input to }
 {
-    let mut next = input;
-    next.at = to;
-    next.seen = to;
-    next.skips = false;
-    if input.number < u64::MAX {
-        next.number = input.number + 1;
+    Input {
+        at: to,
+        seen: to,
+        number: input.number.saturating_add(1),
+        skips: false,
+        ..input
     }
-    next
 }
 
 // The bytes before a place are of no more use, and the line is skipped.
 fn skipping(input: Input, to: usize) -> Input
     ensures { result ≡ skips_to input to }
 {
-    let mut next = input;
-    next.at = to;
-    next.seen = to;
-    next.skips = true;
-    next
+    Input {
+        at: to,
+        seen: to,
+        skips: true,
+        ..input
+    }
 }
 
 // What is held of a line that is skipped goes, to its end or all of it.
+#[tactic(auto, using(crate::proofs::LawsFinding::passed_none, crate::proofs::LawsFinding::passed_all, crate::proofs::LawsFinding::passed_line))]
 fn past_skipped(input: Input, held: &[u8]) -> Input
     ensures { result ≡ passed input held.now }
 {
@@ -110,13 +103,14 @@ fn too_long(number: u64, input: Input) -> Step
 fn line(input: Input, to: usize) -> Step
     ensures { result ≡ line_of input to }
 {
-    let next = Next::Line {
-        number: input.number,
-        from: input.at,
-        to,
-    };
-    let done = line_done(input, to);
-    Step { next, input: done }
+    Step {
+        next: Next::Line {
+            number: input.number,
+            from: input.at,
+            to,
+        },
+        input: line_done(input, to),
+    }
 }
 
 // What stands behind the last newline is a line without one.
@@ -133,6 +127,7 @@ fn at_end(input: Input, end: usize) -> Step
 }
 
 // The line goes on behind what is held, if more can be read.
+#[tactic(auto, unfolding(crate::specs::Finding::waiting_of))]
 fn waiting(input: Input, end: usize) -> Step
     ensures { result ≡ waiting_of input end }
 {
@@ -145,15 +140,14 @@ fn waiting(input: Input, end: usize) -> Step
     if input.ended {
         return at_end(input, end);
     }
-    let mut next = input;
-    next.seen = end;
     Step {
         next: Next::More,
-        input: next,
+        input: Input { seen: end, ..input },
     }
 }
 
 // A line whose newline is not held.
+#[tactic(auto, unfolding(crate::specs::Finding::unfinished_of))]
 fn unfinished(input: Input, end: usize, room: usize) -> Step
     ensures { result ≡ unfinished_of input end room }
 {
@@ -167,11 +161,12 @@ fn unfinished(input: Input, end: usize, room: usize) -> Step
 }
 
 // Each byte is searched once, however short the pieces are in which it comes.
+#[tactic(auto, using(crate::proofs::LawsFinding::next_unfinished, crate::proofs::LawsFinding::next_too_long, crate::proofs::LawsFinding::next_is_line))]
 pub fn next_line(input: Input, buf: &[u8]) -> Step
     ensures value { result ≡ next_of input buf.now }
     ensures lies { Lies result.next (length buf.now) }
 {
-    let end = least(input.end, buf.len());
+    let end = input.end.min(buf.len());
     let held = &buf[..end];
     let begun = past_skipped(input, held);
     let to = line_end(begun, held);

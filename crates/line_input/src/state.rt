@@ -1,8 +1,8 @@
 // Where the reading of an input stands. Every place is tested where it is used, so that nothing here asks anything of its caller.
-ghost use Rattle.std.specs.Prelude.{◌≡◌, min};
+ghost use Rattle.std.specs.Prelude.{◌≡◌};
 ghost use Rattle.line_input.specs.State.{nothing_read};
 
-#[derive(Clone, Copy)]
+#[derive(Clone, Copy, Debug, PartialEq, Eq)]
 pub struct Input {
     // where the line that has begun stands in the buffer
     pub at: usize,
@@ -32,10 +32,4 @@ pub fn begun() -> Input
         ended: false,
         failed: false,
     }
-}
-
-pub(crate) fn least(x: usize, y: usize) -> usize
-    ensures { result ≡ min x y }
-{
-    if x < y { x } else { y }
 }

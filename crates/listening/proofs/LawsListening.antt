@@ -3,7 +3,6 @@ use Prim.Native.Nat.{ℕ}
 use mathlib.Core.Path.{◌≡◌, refl}
 use mathlib.Core.Bool.{Bool, true, false}
 use mathlib.Core.List.{List}
-use mathlib.Core.Option.{Option, some}
 use native.Mathlib.Omega.{arith}
 use lib.Dec.{ltb}
 use lib.ListN.{length}
@@ -21,6 +20,7 @@ use Rattle.masked_log.proofs.LawsCounts as C
 use Rattle.acks.specs.Acks.{acks_in, take_by, station_call}
 use Rattle.acks.proofs.LawsStation.{whole_stored, station_short, station_long, station_drains}
 use Rattle.listening.specs.Counts.{Call, other, station, next, next_all, refusal_of, moves, did, IsPush, Accounts}
+use Rattle.std.specs.Prelude.{Option, Some}
 
 -- a station call comes to its takes, or is refused by 6 or 18
 module _ {limit room : ℕ} (s : Scanner) (store held : List ℕ) (h : Has limit room s store held) (work out : List ℕ) where
@@ -55,7 +55,7 @@ module _ {limit room : ℕ} where
   pub step_counts : (t : State) → Sound limit room t → (c : Call) → Sound limit room (next t c) × Grows t.scanner (next t c).scanner (did t c)
   step_counts t i c = counted t i (moves t c) (refusal_of t c) (next t c).scanner (next t c).store (comes t i c)
 
-  only_push : (t : State) → Sound limit room t → (c : Call) → refusal_of t c ≡ some 27 → IsPush c
+  only_push : (t : State) → Sound limit room t → (c : Call) → refusal_of t c ≡ Some 27 → IsPush c
   only_push t i (other c) e = C.only_push t i c e
   only_push t i (station work out) e =
       let within = goes_drained t.scanner.limit i.held in

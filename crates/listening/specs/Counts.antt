@@ -1,6 +1,5 @@
 -- 02, C-22: lists of calls with station calls among them, and what is claimed of the counts after them.
-use Rattle.std.specs.Prelude.{ℕ, ◌≡◌, List, take as first}
-use Rattle.std.proofs.Math.Option.{Option, some}
+use Rattle.std.specs.Prelude.{ℕ, ◌≡◌, List, take as first, Option, Some}
 use Rattle.cutting.specs.declared.deciding.Moved.{Moved}
 use Rattle.draining.specs.Draining.{drained_of}
 use Rattle.masked_log.specs.Counts.{State, opened, through, number_in, unless_refused, summed, Adds}
@@ -42,4 +41,4 @@ IsPush (station work out) = ⊥
 pub record Accounts (limit : ℕ) (store : List ℕ) (calls : List Call) : Type 0 where
   pub adds : Adds (next_all (opened limit store) calls).scanner (did_all (opened limit store) calls)
   -- whatever call comes next, only a push is ever refused by 27
-  pub only_push : (c : Call) → refusal_of (next_all (opened limit store) calls) c ≡ some 27 → IsPush c
+  pub only_push : (c : Call) → refusal_of (next_all (opened limit store) calls) c ≡ Some 27 → IsPush c

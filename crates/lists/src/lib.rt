@@ -1,8 +1,7 @@
 // The counted lists: an equalizer's steps and a headset's functions.
 #![tactic(auto)]
 
-pub use equalizer::{EqAnswer, EqShape, decode_equalizer, equalizer_steps, gain};
+pub use equalizer::{EqReport, EqShape, decode_equalizer, equalizer_steps, gain};
 pub use support::{
-    SupportAnswer, SupportCheck, SupportFunction, Table, check_support_functions,
-    decode_support_functions,
+    SupportFunction, SupportList, Table, check_support_functions, decode_support_functions,
 };

@@ -2,8 +2,7 @@
 ghost use Rattle.std.specs.Prelude.{◌+◌, ◌≤◌, length};
 
 use crate::say::{complain, print};
-use frame::Written;
-use noise_span::{NoiseFrame, noise_in};
+use noise_span::noise_in;
 use scanner::{Sight, seek};
 use window::{NoiseWindow, counts, push};
 use window_line::write_counts;
@@ -31,12 +30,12 @@ fn tell_at_front(rt: HostRuntime, window: NoiseWindow, out: &mut [u8]) -> Lines
     ensures { result.ready ≤ length out.old }
 {
     match write_counts(counts(window), out) {
-        Written::Bytes(n) => Lines {
+        Ok(n) => Lines {
             window,
             ready: n,
             printed: true,
         },
-        Written::Refused(_) => {
+        Err(_) => {
             complain(rt, b"modes: a line was refused\n");
             not_printed(window)
         }
@@ -49,12 +48,12 @@ fn tell(rt: HostRuntime, window: NoiseWindow, out: &mut [u8], ready: usize) -> L
     ensures { result.ready ≤ length out.old }
 {
     match write_counts(counts(window), &mut out[ready..]) {
-        Written::Bytes(n) => Lines {
+        Ok(n) => Lines {
             window,
             ready: ready + n,
             printed: true,
         },
-        Written::Refused(_) => {
+        Err(_) => {
             if !print(rt, &out[..ready]) {
                 return not_printed(window);
             }
@@ -77,8 +76,8 @@ fn tell_span(
 {
     let window = lines.window;
     match noise_in(plan, frame, work) {
-        NoiseFrame::Report(report) => tell(rt, push(window, report), out, lines.ready),
-        NoiseFrame::Other => lines,
+        Some(report) => tell(rt, push(window, report), out, lines.ready),
+        None => lines,
     }
 }
 

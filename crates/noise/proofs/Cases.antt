@@ -7,22 +7,21 @@ use Rattle.base.specs.Outcome.{accepted}
 use Rattle.reading.specs.Items.{walk}
 use Rattle.reading.specs.Reading.{reading_of, by_kind}
 use Rattle.reading.proofs.LawsReading.{OneLength, layout_length, Causes, layout_causes, either_layout, accepted_layout, no_layout_lem}
-use Rattle.reading.specs.declared.message.OptionByte.TheVariants.{Byte, NoByte}
 use Rattle.noise.specs.Noise.{noise_layout, noise_of}
 use Rattle.noise.specs.declared.noise.NoiseMode.TheVariants.{Off}
-use Rattle.noise.specs.declared.noise.OptionFlag.TheVariants.{Flag, NoFlag}
+use Rattle.std.specs.Prelude.{Some, None}
 
 -- (i): Off, though the rest says cancelling at level 5
 pub case_i :
     noise_of (0x67 ∷ 0x17 ∷ 0x01 ∷ 0x00 ∷ 0x00 ∷ 0x01 ∷ 0x05 ∷ []) ≡
     accepted (record {
       mode = Off;
-      mode_byte = Byte 0x00;
-      ambient_level = Byte 0x05;
-      focus_on_voice = Flag true;
+      mode_byte = Some 0x00;
+      ambient_level = Some 0x05;
+      focus_on_voice = Some true;
       settled = true;
-      adaptive = NoFlag;
-      adaptive_sensitivity = NoByte;
+      adaptive = None;
+      adaptive_sensitivity = None;
     })
 unfolding noise_of noise_layout reading_of walk
 case_i = refl

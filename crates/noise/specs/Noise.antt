@@ -1,43 +1,32 @@
 -- 01, "Messages and decoders": `decode_noise`.
-use Rattle.std.specs.Prelude.{ℕ, Bool, false, List, eqb}
+use Rattle.std.specs.Prelude.{ℕ, Bool, false, List, eqb, Option, Some, None}
 use Rattle.base.specs.Outcome.{Outcome, accepted, pick}
-use Rattle.base.specs.Refusal.{refusal_told}
 use Rattle.reading.specs.Message.{body_at, byte_at}
 use Rattle.reading.specs.Reading.{Layout, layout, no_layout, layout_reading}
-use Rattle.reading.specs.declared.message.OptionByte.{OptionByte}
-use Rattle.reading.specs.declared.message.OptionByte.TheVariants.{Byte, NoByte}
 use Rattle.noise.specs.declared.noise.NoiseMode.{NoiseMode}
 use Rattle.noise.specs.declared.noise.NoiseMode.TheVariants.{Off, Anc, Ambient}
-use Rattle.noise.specs.declared.noise.OptionFlag.{OptionFlag}
-use Rattle.noise.specs.declared.noise.OptionFlag.TheVariants.{Flag, NoFlag}
 use Rattle.noise.specs.declared.noise.NoiseReport.{NoiseReport}
-use Rattle.noise.specs.declared.noise.NoiseAnswer.{NoiseAnswer}
-use Rattle.noise.specs.declared.noise.NoiseAnswer.TheVariants.{Report, Refused}
 use Rattle.noise.specs.declared.noise.Fields.{Fields}
 
-abbrev pub noise_told : NoiseAnswer → Outcome NoiseReport
-noise_told (Report n) = accepted n
-noise_told (Refused r) = refusal_told r
-
 -- "mode `00`, or where there is no mode byte switch `01`, gives Anc"
-abbrev pub cancelling_of : OptionByte → OptionByte → Bool
-cancelling_of (Byte mode) switch = eqb mode 0x00
-cancelling_of NoByte (Byte switch) = eqb switch 0x01
-cancelling_of NoByte NoByte = false
+abbrev pub cancelling_of : Option ℕ → Option ℕ → Bool
+cancelling_of (Some mode) switch = eqb mode 0x00
+cancelling_of None (Some switch) = eqb switch 0x01
+cancelling_of None None = false
 
 -- "else Ambient if the layout has an ambient byte, else Off"
-abbrev else_of : OptionByte → NoiseMode
-else_of (Byte ambient) = Ambient
-else_of NoByte = Off
+abbrev else_of : Option ℕ → NoiseMode
+else_of (Some ambient) = Ambient
+else_of None = Off
 
 -- "Effect off gives Off. Otherwise .."
-abbrev pub mode_of : ℕ → Bool → OptionByte → NoiseMode
+abbrev pub mode_of : ℕ → Bool → Option ℕ → NoiseMode
 mode_of effect cancelling ambient = pick (eqb effect 0x01) (pick cancelling Anc (else_of ambient)) Off
 
 -- "yes only for `01`"
-abbrev pub flag_of : OptionByte → OptionFlag
-flag_of (Byte b) = Flag (eqb b 0x01)
-flag_of NoByte = NoFlag
+abbrev pub flag_of : Option ℕ → Option Bool
+flag_of (Some b) = Some (eqb b 0x01)
+flag_of None = None
 
 -- "body 0 is settled, body 1 the total effect, yes only for `01`"; the mode byte is kept, whatever the mode
 abbrev pub noise_report : List ℕ → Fields → Outcome NoiseReport
@@ -53,26 +42,26 @@ noise_report p f =
     })
 
 -- "`15`, `17` (length 7) mode 2, ambient 3, level 4; `19` (9) also adaptive 5, sensitivity 6"
-abbrev pub full_of : List ℕ → OptionByte → OptionByte → Outcome NoiseReport
-full_of p adaptive sensitivity = noise_report p (record { mode = byte_at p 2; switch = NoByte; ambient = byte_at p 3; level = byte_at p 4; adaptive = adaptive; sensitivity = sensitivity })
+abbrev pub full_of : List ℕ → Option ℕ → Option ℕ → Outcome NoiseReport
+full_of p adaptive sensitivity = noise_report p (record { mode = byte_at p 2; switch = None; ambient = byte_at p 3; level = byte_at p 4; adaptive = adaptive; sensitivity = sensitivity })
 
 -- "`22` (6) ambient 2, level 3"
 abbrev pub ambient_only_of : List ℕ → Outcome NoiseReport
-ambient_only_of p = noise_report p (record { mode = NoByte; switch = NoByte; ambient = byte_at p 2; level = byte_at p 3; adaptive = NoByte; sensitivity = NoByte })
+ambient_only_of p = noise_report p (record { mode = None; switch = None; ambient = byte_at p 2; level = byte_at p 3; adaptive = None; sensitivity = None })
 
 -- "`13` (7) switch 2, ambient 3, level 4"
 abbrev pub switch_and_ambient_of : List ℕ → Outcome NoiseReport
-switch_and_ambient_of p = noise_report p (record { mode = NoByte; switch = byte_at p 2; ambient = byte_at p 3; level = byte_at p 4; adaptive = NoByte; sensitivity = NoByte })
+switch_and_ambient_of p = noise_report p (record { mode = None; switch = byte_at p 2; ambient = byte_at p 3; level = byte_at p 4; adaptive = None; sensitivity = None })
 
 -- "`01` (5) switch 2"
 abbrev pub switch_only_of : List ℕ → Outcome NoiseReport
-switch_only_of p = noise_report p (record { mode = NoByte; switch = byte_at p 2; ambient = NoByte; level = NoByte; adaptive = NoByte; sensitivity = NoByte })
+switch_only_of p = noise_report p (record { mode = None; switch = byte_at p 2; ambient = None; level = None; adaptive = None; sensitivity = None })
 
 -- a kind's length and layout
 unfoldable pub noise_layout : ℕ → Layout NoiseReport
 noise_layout kind =
-    pick (eqb kind 0x15) (layout 7 (λ p. full_of p NoByte NoByte)) (
-    pick (eqb kind 0x17) (layout 7 (λ p. full_of p NoByte NoByte)) (
+    pick (eqb kind 0x15) (layout 7 (λ p. full_of p None None)) (
+    pick (eqb kind 0x17) (layout 7 (λ p. full_of p None None)) (
     pick (eqb kind 0x19) (layout 9 (λ p. full_of p (byte_at p 5) (byte_at p 6))) (
     pick (eqb kind 0x22) (layout 6 ambient_only_of) (
     pick (eqb kind 0x13) (layout 7 switch_and_ambient_of) (

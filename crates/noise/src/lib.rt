@@ -3,4 +3,4 @@
 
 mod noise;
 
-pub use noise::{NoiseAnswer, NoiseMode, NoiseReport, OptionFlag, decode_noise};
+pub use noise::{NoiseMode, NoiseReport, decode_noise};

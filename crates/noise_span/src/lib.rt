@@ -3,4 +3,4 @@
 
 mod noise_span;
 
-pub use noise_span::{NoiseFrame, noise_in};
+pub use noise_span::noise_in;

@@ -1,42 +1,34 @@
 -- The numbers that the exported calls tell, for each accepted value.
-use Rattle.std.specs.Prelude.{ℕ, ◌+◌, Bool, true, false, List, [], ◌∷◌, ◌++◌, eqb, get_or}
-use Rattle.std.proofs.Math.Option.{Option, none, some}
+use Rattle.std.specs.Prelude.{ℕ, ◌+◌, Bool, true, false, List, [], ◌∷◌, ◌++◌, eqb, get_or, Option, Some, None}
 use Rattle.base.specs.Outcome.{Outcome, accepted, refused, pick}
 use Rattle.base.specs.DataType.{to_wire}
-use Rattle.framing.specs.Framing.{Header}
+use Rattle.framing.specs.declared.framing.Header.{Header}
 use Rattle.base.specs.declared.data_type.DataType.{DataType}
 use Rattle.base.specs.declared.data_type.DataType.TheVariants as D
-use Rattle.held.specs.Search.{Spot}
+use Rattle.held.specs.declared.search.Spot.{Spot}
 use Rattle.held.specs.declared.search.Sight.{Sight}
 use Rattle.held.specs.declared.search.Sight.TheVariants.{NoStart, NoEnd, Both}
 use Rattle.reading.specs.declared.message.Message.{Message}
-use Rattle.reading.specs.declared.message.OptionByte.{OptionByte}
-use Rattle.reading.specs.declared.message.OptionByte.TheVariants.{Byte, NoByte}
 use Rattle.battery.specs.declared.battery.Charging.{Charging}
 use Rattle.battery.specs.declared.battery.Charging.TheVariants.{No, Yes, Unknown, Charged, Other}
-use Rattle.battery.specs.declared.battery.OptionCell.{OptionCell}
-use Rattle.battery.specs.declared.battery.OptionCell.TheVariants.{Present, Absent}
+use Rattle.battery.specs.declared.battery.Cell.{Cell}
 use Rattle.battery.specs.declared.battery.BatteryReport.{BatteryReport}
 use Rattle.noise.specs.declared.noise.NoiseMode.{NoiseMode}
 use Rattle.noise.specs.declared.noise.NoiseMode.TheVariants.{Off, Anc, Ambient}
-use Rattle.noise.specs.declared.noise.OptionFlag.{OptionFlag}
-use Rattle.noise.specs.declared.noise.OptionFlag.TheVariants.{Flag, NoFlag}
 use Rattle.noise.specs.declared.noise.NoiseReport.{NoiseReport}
 use Rattle.line_reader.specs.LineReader.{Line, unread_line, header_line, masked_line, full_line}
 use Rattle.counting.specs.declared.counting.LineCounts.{LineCounts}
-use Rattle.billing.specs.Billing.{Bill}
+use Rattle.billing.specs.declared.amounts.Bill.{Bill}
 use Rattle.payload.specs.declared.setting.GeneralSettingParam.{GeneralSettingParam}
-use Rattle.text.specs.declared.text.Characters.{Characters}
-use Rattle.text.specs.declared.text.Characters.TheVariants.{Number, NoText}
 use Rattle.setting_info.specs.declared.setting_info.GeneralSetting.{GeneralSetting}
 use Rattle.paired.specs.declared.paired.PairedDevice.{PairedDevice}
 use Rattle.capability.specs.Capability.{Capability, held, blank}
 use Rattle.range.specs.declared.range.AmbientRange.{AmbientRange}
 use Rattle.capability.specs.declared.capability.CapabilityReport.{CapabilityReport}
-use Rattle.equalizer.specs.Equalizer.{EqReport}
+use Rattle.equalizer.specs.declared.equalizer.EqReport.{EqReport}
 use Rattle.equalizer.specs.declared.equalizer.EqShape.{EqShape}
 use Rattle.equalizer.specs.declared.equalizer.EqShape.TheVariants as E
-use Rattle.support.specs.Support.{SupportList}
+use Rattle.support.specs.declared.support.SupportList.{SupportList}
 use Rattle.support.specs.declared.support.Table.{Table}
 use Rattle.support.specs.declared.support.Table.TheVariants.{One, Two}
 
@@ -49,13 +41,13 @@ abbrev pub bit_numbers : Bool → List ℕ
 bit_numbers on = bit on ∷ []
 
 -- an absent byte is 256, an absent flag 2
-abbrev pub byte_or256 : OptionByte → ℕ
-byte_or256 (Byte b) = b
-byte_or256 NoByte = 256
+abbrev pub byte_or256 : Option ℕ → ℕ
+byte_or256 (Some b) = b
+byte_or256 None = 256
 
-abbrev pub flag_or2 : OptionFlag → ℕ
-flag_or2 (Flag on) = bit on
-flag_or2 NoFlag = 2
+abbrev pub flag_or2 : Option Bool → ℕ
+flag_or2 (Some on) = bit on
+flag_or2 None = 2
 
 -- the place of a type's name in the list
 abbrev pub type_number : DataType → ℕ
@@ -78,12 +70,12 @@ type_number (D.Unknown b) = 15
 
 -- the wire byte of the type, the sequence, the payload's length
 abbrev pub header_numbers : Header → List ℕ
-header_numbers h = to_wire h.kind ∷ h.seq ∷ h.len ∷ []
+header_numbers h = to_wire h.data_type ∷ h.seq ∷ h.len ∷ []
 
 -- 1, offset and length of a span; 0 for none
 abbrev pub spot_numbers : Option Spot → List ℕ
-spot_numbers (some spot) = 1 ∷ spot.at ∷ spot.len ∷ []
-spot_numbers none = 0 ∷ []
+spot_numbers (Some spot) = 1 ∷ spot.at ∷ spot.len ∷ []
+spot_numbers None = 0 ∷ []
 
 -- 0 no START, 1 a START and no END, 2 both; then where the START stands, and how long the span is
 abbrev pub sight_numbers : Sight → List ℕ
@@ -93,12 +85,12 @@ sight_numbers (Both at len) = 2 ∷ at ∷ len ∷ []
 
 -- the line's length; 0 for no span, since a line is never empty
 abbrev pub line_numbers : Option ℕ → List ℕ
-line_numbers (some len) = len ∷ []
-line_numbers none = 0 ∷ []
+line_numbers (Some len) = len ∷ []
+line_numbers None = 0 ∷ []
 
 abbrev pub command_number : Option ℕ → ℕ
-command_number (some command) = command
-command_number none = 256
+command_number (Some command) = command
+command_number None = 256
 
 -- the letter, the type's wire byte, the sequence, the payload's length, and of `H` the command; of `R` the letter and the refusal's number
 abbrev pub line_read_numbers : Line → List ℕ
@@ -125,9 +117,9 @@ charging_number Charged = 3
 charging_number (Other b) = 256 + b
 
 -- level, charging, threshold
-abbrev pub cell_numbers : OptionCell → List ℕ
-cell_numbers (Present c) = c.level ∷ charging_number c.charging ∷ byte_or256 c.threshold ∷ []
-cell_numbers Absent = 256 ∷ 256 ∷ 256 ∷ []
+abbrev pub cell_numbers : Option Cell → List ℕ
+cell_numbers (Some c) = c.level ∷ charging_number c.charging ∷ byte_or256 c.threshold ∷ []
+cell_numbers None = 256 ∷ 256 ∷ 256 ∷ []
 
 abbrev pub battery_numbers : BatteryReport → List ℕ
 battery_numbers b = cell_numbers b.main ++ cell_numbers b.left ++ cell_numbers b.right ++ cell_numbers b.case
@@ -165,14 +157,14 @@ abbrev pub equalizer_numbers : (steps : ℕ) → EqReport → List ℕ
 equalizer_numbers steps e = e.preset ∷ e.count ∷ steps ∷ []
 
 -- a text of any length: 1 and its characters; 0 for no text
-abbrev pub character_numbers : Characters → List ℕ
-character_numbers (Number n) = 1 ∷ n ∷ []
-character_numbers NoText = 0 ∷ []
+abbrev pub character_numbers : Option ℕ → List ℕ
+character_numbers (Some n) = 1 ∷ n ∷ []
+character_numbers None = 0 ∷ []
 
 -- a name has at most 255 bytes, so no more characters: 256 for no text
-abbrev pub characters_or256 : Characters → ℕ
-characters_or256 (Number n) = n
-characters_or256 NoText = 256
+abbrev pub characters_or256 : Option ℕ → ℕ
+characters_or256 (Some n) = n
+characters_or256 None = 256
 
 -- offset of the address, status, the three details, offset and length of the name, its characters
 abbrev pub device_numbers : PairedDevice → List ℕ
@@ -208,8 +200,8 @@ unvoiced min max step = record { voice = false; min = min; max = max; step = ste
 
 -- 1, min, max and step; 0 for none
 abbrev pub within_numbers : Option AmbientRange → List ℕ
-within_numbers (some r) = 1 ∷ r.min ∷ r.max ∷ r.step ∷ []
-within_numbers none = 0 ∷ []
+within_numbers (Some r) = 1 ∷ r.min ∷ r.max ∷ r.step ∷ []
+within_numbers None = 0 ∷ []
 
 abbrev pub shape_number : EqShape → ℕ
 shape_number E.ClearBassAndFive = 0

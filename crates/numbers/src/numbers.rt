@@ -3,23 +3,21 @@ ghost use Rattle.std.specs.Prelude.{◌≡◌};
 ghost use Rattle.line_reader.specs.LineReader.{read_told};
 ghost use Rattle.numbers.specs.Numbers.{bit, byte_or256, characters_or256, flag_or2, charging_number, cell_numbers, battery_numbers, mode_number, noise_numbers, report_numbers, device_numbers, info_numbers, read_numbers};
 
+use base::Refusal;
 use capability::CapabilityReport;
 use line_reader::LineRead;
 use paired::PairedDevice;
-use payload::{
-    BatteryReport, Charging, NoiseMode, NoiseReport, OptionByte, OptionCell, OptionFlag,
-};
+use payload::{BatteryReport, Cell, Charging, NoiseMode, NoiseReport};
 use setting_info::GeneralSetting;
-use text::Characters;
 
 const ABSENT: u64 = 256;
 
-pub fn byte_or(b: OptionByte) -> u64
+pub fn byte_or(b: Option<u8>) -> u64
     ensures { result ≡ byte_or256 b }
 {
     match b {
-        OptionByte::Byte(value) => value as u64,
-        OptionByte::NoByte => ABSENT,
+        Some(value) => value as u64,
+        None => ABSENT,
     }
 }
 
@@ -29,13 +27,10 @@ pub fn flag(on: bool) -> u64
     if on { 1 } else { 0 }
 }
 
-fn flag_or(f: OptionFlag) -> u64
+fn flag_or(f: Option<bool>) -> u64
     ensures { result ≡ flag_or2 f }
 {
-    match f {
-        OptionFlag::Flag(on) => flag(on),
-        OptionFlag::NoFlag => 2,
-    }
+    f.map_or(2, flag)
 }
 
 fn charging(c: Charging) -> u64
@@ -50,16 +45,16 @@ fn charging(c: Charging) -> u64
     }
 }
 
-fn cell(c: OptionCell) -> [u64; 3]
+fn cell(c: Option<Cell>) -> [u64; 3]
     ensures { result ≡ cell_numbers c }
 {
     match c {
-        OptionCell::Present(there) => {
+        Some(there) => {
             let status = there.charging;
             let threshold = there.threshold;
             [there.level as u64, charging(status), byte_or(threshold)]
         }
-        OptionCell::Absent => [ABSENT, ABSENT, ABSENT],
+        None => [ABSENT, ABSENT, ABSENT],
     }
 }
 
@@ -130,13 +125,10 @@ pub fn ranges(kind: u8, report: CapabilityReport) -> [u64; 10]
 }
 
 // A name has at most 255 bytes, so that no number of its characters is 256.
-fn characters_or(c: Characters) -> u64
+fn characters_or(c: Option<usize>) -> u64
     ensures { result ≡ characters_or256 c }
 {
-    match c {
-        Characters::Number(n) => n as u64,
-        Characters::NoText => ABSENT,
-    }
+    c.map_or(ABSENT, |n| n as u64)
 }
 
 pub fn device(d: PairedDevice) -> [u64; 8]
@@ -171,10 +163,10 @@ pub fn setting_info(s: GeneralSetting) -> [u64; 7]
     ]
 }
 
-pub fn line(read: LineRead) -> [u64; 5]
-    ensures { result ≡ read_numbers (read_told read) }
+fn accepted_line(line: LineRead) -> [u64; 5]
+    ensures { result ≡ read_numbers (read_told (Ok line)) }
 {
-    match read {
+    match line {
         LineRead::Unread(number) => [b'R' as u64, number as u64, 0, 0, ABSENT],
         LineRead::Header {
             data_type,
@@ -210,6 +202,14 @@ pub fn line(read: LineRead) -> [u64; 5]
             len as u64,
             ABSENT,
         ],
-        LineRead::Refused(_) => [0, 0, 0, 0, ABSENT],
+    }
+}
+
+pub fn line(read: Result<LineRead, Refusal>) -> [u64; 5]
+    ensures { result ≡ read_numbers (read_told read) }
+{
+    match read {
+        Ok(line) => accepted_line(line),
+        Err(_) => [0, 0, 0, 0, ABSENT],
     }
 }

@@ -1,15 +1,10 @@
 -- 01, "Messages and decoders": `decode_paired_devices`, a device by its index.
 use Rattle.std.specs.Prelude.{ℕ, ◌+◌, List, [], get_or, take, drop, ltb, eqb}
 use Rattle.base.specs.Outcome.{Outcome, accepted, refused, pick}
-use Rattle.base.specs.Refusal.{refusal_told}
 use Rattle.reading.specs.Items.{headed, counted, item_at}
 use Rattle.reading.specs.Reading.{count_reading}
 use Rattle.text.specs.Text.{characters_of}
-use Rattle.paired.specs.declared.paired.PairedDevices.{PairedDevices}
-use Rattle.paired.specs.declared.paired.PairedDevices.TheVariants.{Count, Refused}
 use Rattle.paired.specs.declared.paired.PairedDevice.{PairedDevice}
-use Rattle.paired.specs.declared.paired.PairedLookup.{PairedLookup}
-use Rattle.paired.specs.declared.paired.PairedLookup.TheVariants.{Device, Refused as Refused'}
 
 -- "17 address bytes, status, three detail bytes, name length, name": a head of 21 bytes, then the name by its length
 abbrev pub name_length : List ℕ → ℕ → ℕ
@@ -25,10 +20,6 @@ paired_of = count_reading (λ kind. eqb kind 0x02) 2 (headed 21) 1
 -- where the device of an index begins
 abbrev pub start_of : List ℕ → ℕ → ℕ
 start_of payload index = item_at (counted 2 (headed 21) 1 payload) payload index
-
-abbrev pub paired_told : PairedDevices → Outcome ℕ
-paired_told (Count n) = accepted n
-paired_told (Refused r) = refusal_told r
 
 -- "a lookup by index gives one device. Addresses and names are raw bytes, given by offset and length in the payload"; 02, C-13:
 -- "Device lookup .. carry that number on": the device that begins at `at`
@@ -56,7 +47,3 @@ lookup_by (accepted count) payload index =
 
 unfoldable pub lookup_of : List ℕ → ℕ → Outcome PairedDevice
 lookup_of payload index = lookup_by (paired_of payload) payload index
-
-abbrev pub lookup_told : PairedLookup → Outcome PairedDevice
-lookup_told (Device d) = accepted d
-lookup_told (Refused' r) = refusal_told r

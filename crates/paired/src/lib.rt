@@ -3,4 +3,4 @@
 
 mod paired;
 
-pub use paired::{PairedDevice, PairedDevices, PairedLookup, decode_paired_devices, paired_device};
+pub use paired::{PairedDevice, decode_paired_devices, paired_device};

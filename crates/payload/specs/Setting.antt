@@ -1,16 +1,9 @@
 -- 01, "Messages and decoders": `decode_general_setting_param`.
 use Rattle.std.specs.Prelude.{ℕ, true, false, List, [], eqb}
 use Rattle.base.specs.Outcome.{Outcome, accepted, refused, pick}
-use Rattle.base.specs.Refusal.{refusal_told}
 use Rattle.reading.specs.Message.{kind_of, body_at}
 use Rattle.reading.specs.Reading.{Layout, layout, layout_reading}
 use Rattle.payload.specs.declared.setting.GeneralSettingParam.{GeneralSettingParam}
-use Rattle.payload.specs.declared.setting.SettingAnswer.{SettingAnswer}
-use Rattle.payload.specs.declared.setting.SettingAnswer.TheVariants.{Param, Refused}
-
-abbrev pub setting_told : SettingAnswer → Outcome GeneralSettingParam
-setting_told (Param s) = accepted s
-setting_told (Refused r) = refusal_told r
 
 -- "body `00` then `00` on or `01` off"
 unfoldable pub setting_contents : List ℕ → Outcome GeneralSettingParam

@@ -3,7 +3,7 @@
 
 mod setting;
 
-pub use battery::{BatteryAnswer, BatteryReport, Cell, Charging, OptionCell, decode_battery};
-pub use noise::{NoiseAnswer, NoiseMode, NoiseReport, OptionFlag, decode_noise};
-pub use reading::{Message, OptionByte, Split};
-pub use setting::{GeneralSettingParam, SettingAnswer, decode_general_setting_param};
+pub use battery::{BatteryReport, Cell, Charging, decode_battery};
+pub use noise::{NoiseMode, NoiseReport, decode_noise};
+pub use reading::Message;
+pub use setting::{GeneralSettingParam, decode_general_setting_param};

@@ -8,6 +8,7 @@ const TABLE_LEN: usize = 256;
 
 const LAST_ENTRY: u8 = 8;
 
+#[tactic(auto, unfolding(crate::specs::Plan::house_plan))]
 pub fn house_plan() -> [u8; 512]
     ensures { result ≡ house_plan }
 {
@@ -30,6 +31,7 @@ pub fn house_plan() -> [u8; 512]
 }
 
 // Whether a plan has its length and no entry that names no decoder.
+#[tactic(auto, using(crate::proofs::LawsPlan::fine_step, crate::proofs::LawsPlan::fine_end), unfolding(crate::specs::Plan::plan_fine))]
 pub fn plan_fine(plan: &[u8]) -> bool
     ensures { result ≡ plan_fine plan.now }
 {
@@ -38,13 +40,8 @@ pub fn plan_fine(plan: &[u8]) -> bool
     }
     // never left early, so that it vectorises
     let mut fine = true;
-    let mut i = 0;
-    while i < plan.len() {
-        let e = plan[i];
-        i += 1;
-        if e > LAST_ENTRY {
-            fine = false;
-        }
+    for &e in plan {
+        fine &= e <= LAST_ENTRY;
     }
     fine
 }
@@ -53,7 +50,7 @@ pub fn plan_fine(plan: &[u8]) -> bool
 fn entry_at(plan: &[u8], at: usize) -> u8
     ensures { result ≡ get_or plan.now at 0 }
 {
-    if at < plan.len() { plan[at] } else { 0 }
+    plan.get(at).copied().unwrap_or(0)
 }
 
 #[tactic(auto, unfolding(crate::specs::Plan::entry_of))]

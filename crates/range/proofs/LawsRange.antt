@@ -4,7 +4,6 @@ use mathlib.Core.Path.{◌≡◌, refl, sym, ap, ◌∙◌}
 use mathlib.Core.Bool.{Bool, true, false, true≢false, ◌||◌}
 use mathlib.Core.List.{[]}
 use mathlib.Core.Logic.{◌↔◌}
-use mathlib.Core.Option.{Option, none, some}
 use native.Mathlib.Omega.{arith}
 use lib.Dec.{T, ltb, leb, eqb}
 use lib.IntN.{ℤ, pos, negsuc, nat_abs}
@@ -17,6 +16,7 @@ use borrow.Author.Tests.{ltb-true, ltb-false, leb-true, leb-false, eqb-true, le-
 use Rattle.base.specs.Outcome.{accepted, refused, pick}
 use Rattle.range.specs.Range.{admits_of, within_of, between, first_from, last_to}
 use Rattle.range.specs.declared.range.AmbientRange.{AmbientRange}
+use Rattle.std.specs.Prelude.{Option, Some, None}
 
 negative_no : (r : AmbientRange) (z : ℤ) → lt_z z (pos 0) ≡ true → accepted false ≡ admits_of r z
 unfolding admits_of
@@ -165,7 +165,7 @@ pub record LevelIn (r : AmbientRange) (lo hi n : ℕ) : Type 0 where
 
 module _ (r : AmbientRange) (lo hi : ℕ) where
   -- what `within` gives: none where no level lies in the bounds, else the range narrowed to them
-  pub within_cases : (P : Option AmbientRange → Type 0) → (((n : ℕ) → ¬ (LevelIn r lo hi n)) → P none) → ((r' : AmbientRange) → Narrowing r r' lo hi → P (some r')) → P (within_of r lo hi)
+  pub within_cases : (P : Option AmbientRange → Type 0) → (((n : ℕ) → ¬ (LevelIn r lo hi n)) → P None) → ((r' : AmbientRange) → Narrowing r r' lo hi → P (Some r')) → P (within_of r lo hi)
   unfolding within_of
   within_cases P empty narrowed = go (ltb top r.min) refl
     where
@@ -187,10 +187,10 @@ module _ (r : AmbientRange) (lo hi : ℕ) where
       least : Least r.min step lo first
       least = first_nearest r.min step some_step lo
 
-      ends : (u : Bool) → ltb last first ≡ u → Greatest r.min step top last → P (pick u none (some (record { voice = r.voice; min = first; max = last; step = r.step })))
+      ends : (u : Bool) → ltb last first ≡ u → Greatest r.min step top last → P (pick u None (Some (record { voice = r.voice; min = first; max = last; step = r.step })))
       ends true e greatest = empty (λ n l. omega (arith, ltb-true last first e, least.least n l.level.on l.reaches, greatest.greatest n l.level.on (omega (arith, l.level.upto, l.upto))))
       ends false e greatest = narrowed _ (record { first = least; last = greatest; ordered = ltb-false last first e; same = (refl, refl) })
 
-      go : (t : Bool) → ltb top r.min ≡ t → P (pick t none (between r first last))
+      go : (t : Bool) → ltb top r.min ≡ t → P (pick t None (between r first last))
       go true e = empty (λ n l. omega (arith, ltb-true top r.min e, steps_up l.level.on, l.level.upto, l.upto))
       go false e = ends (ltb last first) refl (last_nearest r.min step some_step top (ltb-false top r.min e))

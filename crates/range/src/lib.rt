@@ -3,4 +3,4 @@
 
 mod range;
 
-pub use range::{Admitted, AmbientRange, Narrowed};
+pub use range::AmbientRange;

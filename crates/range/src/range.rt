@@ -1,7 +1,8 @@
 // The levels that an ambient sound mode has.
 ghost use Rattle.std.specs.Prelude.{◌≡◌};
 ghost use Prim.Native.Nat.{◌<◌, ◌+◌, ◌-◌, ◌*◌, ◌/◌, max};
-ghost use Rattle.range.specs.Range.{admitted_told, admits_of, narrowed_told, within_of, first_from};
+ghost use Rattle.range.specs.Range.{admits_of, within_of, first_from};
+ghost use Rattle.base.specs.Refusal.{outcome_of};
 
 use frame::Refusal;
 
@@ -11,19 +12,6 @@ pub struct AmbientRange {
     pub min: u8,
     pub max: u8,
     pub step: u8,
-}
-
-#[derive(Clone, Copy)]
-pub enum Admitted {
-    Yes,
-    No,
-    Refused(Refusal),
-}
-
-#[derive(Clone, Copy)]
-pub enum Narrowed {
-    Range(AmbientRange),
-    Empty,
 }
 
 // The first level at or above `lo` on the steps from `min`.
@@ -40,59 +28,59 @@ fn first_from(min: u32, step: u32, lo: u32) -> u32
 fn at_least_one(step: u8) -> u32
     ensures { result ≡ max 1 step }
 {
-    if step == 0 { 1 } else { step as u32 }
+    u32::from(step.max(1))
 }
 
 fn lower(a: u8, b: u8) -> u32
     ensures { result ≡ Prim.Native.Nat.min a b }
 {
-    if a < b { a as u32 } else { b as u32 }
+    u32::from(a.min(b))
 }
 
 impl AmbientRange {
     // Whether a headset with this range takes `level`.
-    pub fn admits(self, level: i32) -> Admitted
-        ensures { admitted_told result ≡ admits_of self level }
+    pub fn admits(self, level: i32) -> Result<bool, Refusal>
+        ensures { outcome_of result ≡ admits_of self level }
     {
         if level < 0 {
-            return Admitted::No;
+            return Ok(false);
         }
         let at = level as u32;
         let min = self.min as u32;
         let max = self.max as u32;
         let step = self.step as u32;
         if at < min {
-            return Admitted::No;
+            return Ok(false);
         }
         if at > max {
-            return Admitted::No;
+            return Ok(false);
         }
         if step == 0 {
-            return Admitted::Refused(Refusal::StepZero);
+            return Err(Refusal::StepZero);
         }
         if (at - min) % step == 0 {
-            Admitted::Yes
+            Ok(true)
         } else {
-            Admitted::No
+            Ok(false)
         }
     }
 
     // The levels of this range that lie in `lo..=hi`, on the same steps.
-    pub fn within(self, lo: u8, hi: u8) -> Narrowed
-        ensures { narrowed_told result ≡ within_of self lo hi }
+    pub fn within(self, lo: u8, hi: u8) -> Option<AmbientRange>
+        ensures { result ≡ within_of self lo hi }
     {
         let min = self.min as u32;
         let step = at_least_one(self.step);
         let top = lower(self.max, hi);
         if top < min {
-            return Narrowed::Empty;
+            return None;
         }
         let first = first_from(min, step, lo as u32);
         let last = min + (top - min) / step * step;
         if last < first {
-            return Narrowed::Empty;
+            return None;
         }
-        Narrowed::Range(AmbientRange {
+        Some(AmbientRange {
             voice: self.voice,
             min: first as u8,
             max: last as u8,

@@ -1,9 +1,10 @@
 -- Laws of the walk over counted items, for every size of an item.
-use Prim.Native.Nat.{ℕ, zero, suc, ◌+◌, ◌-◌, ◌*◌, ◌≤◌, ◌<◌}
+use Prim.Native.Nat.{ℕ, zero, suc, ◌+◌, ◌*◌, ◌≤◌, ◌<◌}
 use native.Mathlib.Nat.{le_of_suc-le-suc}
 use mathlib.Core.Path.{◌≡◌, refl, ap, ◌∙◌}
 use mathlib.Core.List.{List, ◌++◌}
 use native.Mathlib.Omega.{arith}
+use native.Mathlib.Numerals.{add-one}
 use lib.ListN.{length, get_or-append}
 use Rattle.reading.specs.Items.{Size, fixed, headed, walk, counted, length_by}
 
@@ -13,24 +14,19 @@ module _ (size : Size) (p : List ℕ) where
   walk_grows zero at = omega arith
   walk_grows (suc n) at = omega (arith, walk_grows n (at + size p at))
 
-  pub walk_step : (n at : ℕ) → 0 < n → walk size p n at ≡ walk size p (n - 1) (at + size p at)
-  unfolding walk
-  walk_step zero at h = absurd (omega arith)
-  walk_step (suc n) at h = let e : n ≡ suc n - 1 = omega arith in ap (λ (m : ℕ). walk size p m (at + size p at)) e
-
   pub walk_none : (n at : ℕ) → n ≤ 0 → walk size p n at ≡ at
   unfolding walk
   walk_none zero at h = refl
   walk_none (suc n) at h = absurd (omega arith)
-
-  pub walk_past : (n at : ℕ) → 0 < n → at + size p at ≤ walk size p n at
-  walk_past n at h = rw (walk_step n at h) (walk_grows (n - 1) (at + size p at))
 
   -- an item begins where the one before it ended
   pub walk_last : (n at : ℕ) → walk size p (suc n) at ≡ walk size p n at + size p (walk size p n at)
   unfolding walk
   walk_last zero at = refl
   walk_last (suc n) at = walk_last n (at + size p at)
+
+  pub walk_more : (n at : ℕ) → walk size p (n + 1) at ≡ walk size p n at + size p (walk size p n at)
+  walk_more n at = rw (add-one n) (walk_last n at)
 
   pub walk_mono : (k n at : ℕ) → k ≤ n → walk size p k at ≤ walk size p n at
   unfolding walk

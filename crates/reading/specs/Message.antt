@@ -1,12 +1,7 @@
 -- 01, "Messages and decoders": how a payload is split.
-use Rattle.std.specs.Prelude.{ℕ, ◌+◌, List, [], eqb, length, get_or, drop}
+use Rattle.std.specs.Prelude.{ℕ, ◌+◌, List, [], eqb, length, get_or, drop, Option, Some, None}
 use Rattle.base.specs.Outcome.{Outcome, accepted, refused, pick}
-use Rattle.base.specs.Refusal.{refusal_told}
 use Rattle.reading.specs.declared.message.Message.{Message}
-use Rattle.reading.specs.declared.message.OptionByte.{OptionByte}
-use Rattle.reading.specs.declared.message.OptionByte.TheVariants.{Byte, NoByte}
-use Rattle.reading.specs.declared.message.Split.{Split}
-use Rattle.reading.specs.declared.message.Split.TheVariants.{Parts, Refused}
 
 -- "Payload byte 0 is the command, byte 1 the kind, the rest the body."
 abbrev pub kind_of : List ℕ → ℕ
@@ -19,12 +14,8 @@ message_body payload = drop 2 payload
 abbrev pub body_at : List ℕ → ℕ → ℕ
 body_at payload offset = get_or payload (2 + offset) 0
 
-abbrev pub byte_at : List ℕ → ℕ → OptionByte
-byte_at payload offset = Byte (body_at payload offset)
-
-abbrev pub split_told : Split → Outcome Message
-split_told (Parts m) = accepted m
-split_told (Refused r) = refusal_told r
+abbrev pub byte_at : List ℕ → ℕ → Option ℕ
+byte_at payload offset = Some (body_at payload offset)
 
 -- 19 for an empty payload; else the command, the kind if there is one, and the length
 unfoldable pub split_of : List ℕ → Outcome Message
@@ -32,6 +23,6 @@ split_of payload =
     pick (eqb (length payload) 0) (refused 19 [])
     (accepted (record {
       command = get_or payload 0 0;
-      kind = pick (eqb (length payload) 1) NoByte (Byte (kind_of payload));
+      kind = pick (eqb (length payload) 1) None (Some (kind_of payload));
       len = length payload;
     }))

@@ -3,6 +3,7 @@ ghost use Rattle.std.specs.Prelude.{◌≡◌, min, length};
 ghost use Rattle.reading.specs.Items.{headed, walk};
 
 // The place after n items, the first of them at `first`, or the payload's length where they do not fit.
+#[tactic(auto, using(crate::proofs::LawsItems::apart, crate::proofs::LawsItems::walk_more, crate::proofs::LawsItems::walk_grows), unfolding(crate::specs::Items::walk))]
 pub fn items_end(payload: &[u8], head: usize, n: usize, first: usize) -> usize
     ensures { result ≡ min (walk (headed head) payload.now n first) (length payload.now) }
 {
@@ -11,18 +12,16 @@ pub fn items_end(payload: &[u8], head: usize, n: usize, first: usize) -> usize
         return len;
     }
     let mut at = first;
-    let mut left = n;
-    while left > 0 {
+    for _ in 0..n {
         if len - at <= head {
             return len;
         }
         let more = payload[at + head] as usize;
-        at = at + head + 1;
+        at += head + 1;
         if len - at < more {
             return len;
         }
         at += more;
-        left -= 1;
     }
     at
 }

@@ -2,21 +2,12 @@
 
 // The sum of a string so far, with one byte more: 65,599 times the sum and the byte and 1, over 4,294,967,291.
 pub fn mix(sum: u64, b: u8) -> u64 {
-    ((sum % 4294967291) * 65599 + (b as u64) + 1) % 4294967291
+    ((sum % 4294967291) * 65599 + u64::from(b) + 1) % 4294967291
 }
 
-// The sum with the first n bytes of a string.
-pub fn mix_first(sum: u64, s: &[u8], n: usize) -> u64 {
-    let mut total = sum;
-    let mut i = 0;
-    while i < s.len() {
-        if i == n {
-            return total;
-        }
-        total = mix(total, s[i]);
-        i += 1;
-    }
-    total
+// The sum with all the bytes of a string.
+pub fn mix_bytes(sum: u64, s: &[u8]) -> u64 {
+    s.iter().fold(sum, |sum, &b| mix(sum, b))
 }
 
 // The state after one step of the rule.
@@ -28,24 +19,17 @@ fn next(state: u64) -> u64 {
 fn byte_of(state: u64, seed: u64) -> u8 {
     let high = (state / 65536) % 256;
     if seed % 2 == 1 {
-        low_byte(59 + high % 5)
+        (59 + high % 5) as u8
     } else {
-        low_byte(high)
+        high as u8
     }
-}
-
-fn low_byte(n: u64) -> u8 {
-    (n % 256) as u8
 }
 
 // Fills a buffer by the rule of a seed.
 pub fn fill(buf: &mut [u8], seed: u64) {
-    let n = buf.len();
     let mut state = next(seed);
-    let mut i = 0;
-    while i < n {
-        crate::answer::put(buf, i, byte_of(state, seed));
+    for b in buf {
+        *b = byte_of(state, seed);
         state = next(state);
-        i += 1;
     }
 }

@@ -6,22 +6,21 @@ mod frames;
 mod logs;
 
 use frames::frames_of;
-use logs::{log_of, say};
-use replay::first;
+use logs::log_of;
+use replay::write_all;
 
 fn main(rt: HostRuntime) {
     let mut input = replay::room();
-    let mut log = [0u8; 262144];
-    let mut frames = [0u8; 131072];
+    let mut log = [0; 262144];
+    let mut frames = [0; 131072];
     let n = replay::read_full(&mut rt.stdin(), &mut input);
     twice(&rt, &input[..n], &mut log, &mut frames);
 }
 
 fn twice(rt: &impl Print, input: &[u8], log: &mut [u8], frames: &mut [u8]) {
-    let n = log_of(rt, input, log);
-    say(rt, first(log, n));
-    say(rt, b"\n");
-    let m = frames_of(rt, first(log, n), frames);
-    let k = log_of(rt, first(frames, m), log);
-    say(rt, first(log, k));
+    let once = log_of(rt, input, log);
+    write_all(rt, once);
+    write_all(rt, b"\n");
+    let frames = frames_of(rt, once, frames);
+    write_all(rt, log_of(rt, frames, log));
 }

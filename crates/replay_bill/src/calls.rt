@@ -1,69 +1,52 @@
 // The calls, and their answers in words.
-use billing::{Billed, Counted, LineCounts, bill, bill_text, count_line, count_text, no_lines};
-use decimal::{Decimal, read_decimal};
-use replay::{behind, first, next_line, number, refusal, word};
+use base::Refusal;
+use billing::{Bill, LineCounts, bill, bill_text, count_line, count_text, no_lines};
+use decimal::read_decimal;
+use replay::Text;
 
-fn billed(answer: Billed, text: &mut [u8], k: usize) -> usize {
-    match answer {
-        Billed::Bill { net, total } => {
-            let a = word(text, k, b"bill");
-            let b = number(text, a, net);
-            number(text, b, total)
-        }
-        Billed::Refused(r) => refusal(text, k, r),
-    }
+fn bill_of(text: &mut Text, bill: Bill) {
+    text.word(b"bill");
+    text.number(bill.net);
+    text.number(bill.total);
 }
 
-fn counted(answer: Counted, text: &mut [u8], k: usize) -> usize {
-    match answer {
-        Counted::Lines(counts) => lines(counts, text, k),
-        Counted::Refused(r) => refusal(text, k, r),
-    }
+fn lines_of(text: &mut Text, counts: LineCounts) {
+    text.word(b"lines");
+    text.number(counts.full);
+    text.number(counts.masked);
+    text.number(counts.header);
+    text.number(counts.unread);
 }
 
-fn lines(counts: LineCounts, text: &mut [u8], k: usize) -> usize {
-    let a = word(text, k, b"lines");
-    let b = number(text, a, counts.full);
-    let c = number(text, b, counts.masked);
-    let d = number(text, c, counts.header);
-    number(text, d, counts.unread)
-}
-
-pub fn bill_counts(counts: LineCounts, tax: u64, text: &mut [u8], k: usize) -> usize {
-    billed(bill(counts, tax), text, k)
+pub fn bill_counts(counts: LineCounts, tax: u64, text: &mut Text) {
+    text.answer(bill(counts, tax), bill_of);
 }
 
 // The lines of a log, each up to its newline, and the bytes behind the last one.
-fn line_by_line(log: &[u8]) -> Counted {
+fn line_by_line(log: &[u8]) -> Result<LineCounts, Refusal> {
     let mut counts = no_lines();
-    let mut at = 0;
-    while at < log.len() {
-        let end = next_line(log, at);
-        match count_line(counts, behind(first(log, end), at)) {
-            Counted::Lines(next) => counts = next,
-            Counted::Refused(r) => return Counted::Refused(r),
-        }
-        at = end;
+    for line in log.split_inclusive(|&b| b == b'\n') {
+        counts = count_line(counts, line)?;
     }
-    Counted::Lines(counts)
+    Ok(counts)
 }
 
-pub fn bill_lines(log: &[u8], tax: u64, text: &mut [u8], k: usize) -> usize {
-    let a = billed(bill_text(log, tax), text, k);
-    let b = counted(count_text(log), text, a);
-    counted(line_by_line(log), text, b)
+pub fn bill_lines(log: &[u8], tax: u64, text: &mut Text) {
+    text.answer(bill_text(log, tax), bill_of);
+    text.answer(count_text(log), lines_of);
+    text.answer(line_by_line(log), lines_of);
 }
 
-pub fn one_line(counts: LineCounts, line: &[u8], text: &mut [u8], k: usize) -> usize {
-    counted(count_line(counts, line), text, k)
+pub fn one_line(counts: LineCounts, line: &[u8], text: &mut Text) {
+    text.answer(count_line(counts, line), lines_of);
 }
 
-pub fn read_digits(digits: &[u8], text: &mut [u8], k: usize) -> usize {
+pub fn read_digits(digits: &[u8], text: &mut Text) {
     match read_decimal(digits) {
-        Decimal::Number(n) => {
-            let a = word(text, k, b"number");
-            number(text, a, n)
+        Some(n) => {
+            text.word(b"number");
+            text.number(n);
         }
-        Decimal::NotANumber => word(text, k, b"none"),
+        None => text.word(b"none"),
     }
 }

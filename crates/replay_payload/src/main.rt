@@ -27,7 +27,8 @@
 mod calls;
 mod lines;
 mod outcomes;
-mod ranges;
+mod places;
+mod reader;
 mod records;
 mod strings;
 mod sums;

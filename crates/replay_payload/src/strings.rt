@@ -1,60 +1,34 @@
 // The characters of strings, over all the strings with one first byte.
-use replay::{first, mix, number, put};
-use text::{Characters, count_characters};
+use replay::{first, mix, set};
+use text::count_characters;
 
 // Bytes round the edges of the ranges of the forms' later bytes: the third and fourth of the strings of four.
-pub fn edge(i: usize) -> u8 {
-    match i {
-        0 => 0x00,
-        1 => 0x7F,
-        2 => 0x80,
-        3 => 0x8F,
-        4 => 0x90,
-        5 => 0x9F,
-        6 => 0xA0,
-        7 => 0xBF,
-        8 => 0xC0,
-        _ => 0xFF,
-    }
-}
+pub const EDGES: [u8; 10] = [0x00, 0x7F, 0x80, 0x8F, 0x90, 0x9F, 0xA0, 0xBF, 0xC0, 0xFF];
 
 // A number of characters as one byte, 255 for no text; the strings here have at most four.
-fn as_byte(c: Characters) -> u8 {
+fn as_byte(c: Option<usize>) -> u8 {
     match c {
-        Characters::Number(n) => { if n < 254 { n as u8 } else { 254 } }
-        Characters::NoText => 255,
+        Some(n) => n.min(254) as u8,
+        None => 255,
     }
 }
 
-// The byte `i` of those that a place is given: every byte, or those round the edges.
-fn tried(i: usize, count: usize) -> u8 {
-    if count == 256 {
-        return (i % 256) as u8;
-    }
-    edge(i)
-}
-
-fn choices(at: usize, n: usize) -> usize {
-    if at < 2 || n < 4 { 256 } else { 10 }
-}
-
-// The sum of the answers for the strings of n bytes that begin with the first `at` kept ones.
-fn strings(kept: &mut [u8], at: usize, n: usize, before: u64) -> u64 {
+// The sum of the answers for the strings of n bytes that begin with the first `at` kept ones. `every` has all the bytes.
+fn strings(kept: &mut [u8], at: usize, n: usize, every: &[u8], before: u64) -> u64 {
     if at >= n {
         return mix(before, as_byte(count_characters(first(kept, n))));
     }
-    let count = choices(at, n);
+    let tried = if at < 2 || n < 4 { every } else { &EDGES };
     let mut sum = before;
-    let mut i: usize = 0;
-    while i < count {
-        put(kept, at, tried(i, count));
-        sum = strings(kept, at + 1, n, sum);
-        i += 1;
+    for &b in tried {
+        set(kept, at, b);
+        sum = strings(kept, at + 1, n, every, sum);
     }
     sum
 }
 
-pub fn texts(n: usize, start: u8, kept: &mut [u8], text: &mut [u8], k: usize) -> usize {
-    put(kept, 0, start);
-    number(text, k, strings(kept, 1, n, 0))
+pub fn texts(n: usize, start: u8, kept: &mut [u8]) -> u64 {
+    let every: [u8; 256] = std::array::from_fn(|i| i as u8);
+    set(kept, 0, start);
+    strings(kept, 1, n, &every, 0)
 }

@@ -1,145 +1,65 @@
 // Readings of many payloads, by the sum of their answers.
-use crate::calls::reading;
-use crate::records::byte_at;
-use crate::strings::edge;
-use lists::Table;
-use replay::{behind, first, mix_first, put};
-
-// The sum with the answer to one more reading.
-fn with_reading(op: u8, payload: &[u8], records: &mut [u8], scratch: &mut [u8], sum: u64) -> u64 {
-    let end = reading(op, Table::One, payload, records, scratch, 0);
-    mix_first(sum, scratch, end)
-}
+use crate::reader::Sum;
+use crate::strings::EDGES;
+use replay::{Text, behind, first, set};
 
 // The first n bytes with each byte at a place.
-pub fn values(
-    op: u8,
-    kept: &mut [u8],
-    n: usize,
-    place: usize,
-    records: &mut [u8],
-    scratch: &mut [u8],
-    before: u64,
-) -> u64 {
-    let mut sum = before;
-    let mut b: usize = 0;
-    while b < 256 {
-        put(kept, place, (b % 256) as u8);
-        sum = with_reading(op, first(kept, n), records, scratch, sum);
-        b += 1;
+pub fn values(kept: &mut [u8], n: usize, place: usize, sum: &mut Sum) {
+    for b in 0..=255 {
+        set(kept, place, b);
+        sum.add(first(kept, n));
     }
-    sum
 }
 
 // The same, for each of the ten bytes round the edges at another place.
-pub fn pairs(
-    op: u8,
-    kept: &mut [u8],
-    n: usize,
-    edges: usize,
-    place: usize,
-    records: &mut [u8],
-    scratch: &mut [u8],
-) -> u64 {
-    let mut sum = 0;
-    let mut i = 0;
-    while i < 10 {
-        put(kept, edges, edge(i));
-        sum = values(op, kept, n, place, records, scratch, sum);
-        i += 1;
+pub fn pairs(kept: &mut [u8], n: usize, edges: usize, place: usize, sum: &mut Sum) {
+    for b in EDGES {
+        set(kept, edges, b);
+        values(kept, n, place, sum);
     }
-    sum
 }
 
 // Each length below n.
-pub fn lengths(op: u8, kept: &[u8], n: usize, records: &mut [u8], scratch: &mut [u8]) -> u64 {
-    let mut sum = 0;
-    let mut len = 0;
-    while len < n {
-        sum = with_reading(op, first(kept, len), records, scratch, sum);
-        len += 1;
+pub fn lengths(kept: &[u8], n: usize, sum: &mut Sum) {
+    for len in 0..n {
+        sum.add(first(kept, len));
     }
-    sum
-}
-
-// Each part of the bytes that begins where they do.
-fn fronts(op: u8, bytes: &[u8], records: &mut [u8], scratch: &mut [u8], before: u64) -> u64 {
-    let mut sum = before;
-    let mut n = 0;
-    while n < bytes.len() {
-        n += 1;
-        sum = with_reading(op, first(bytes, n), records, scratch, sum);
-    }
-    sum
 }
 
 // Each part of the bytes.
-pub fn parts(op: u8, bytes: &[u8], records: &mut [u8], scratch: &mut [u8]) -> u64 {
-    let mut sum = 0;
-    let mut from = 0;
-    while from < bytes.len() {
-        sum = fronts(op, behind(bytes, from), records, scratch, sum);
-        from += 1;
+pub fn parts(bytes: &[u8], sum: &mut Sum) {
+    for from in 0..bytes.len() {
+        let rest = &bytes[from..];
+        for n in 1..=rest.len() {
+            sum.add(&rest[..n]);
+        }
     }
-    sum
-}
-
-fn append(out: &mut [u8], at: usize, bytes: &[u8]) -> usize {
-    let mut k = at;
-    let mut i = 0;
-    while i < bytes.len() {
-        k = put(out, k, bytes[i]);
-        i += 1;
-    }
-    k
-}
-
-// A text with its length byte, between what stands before and behind it.
-fn placed(out: &mut [u8], head: &[u8], text: &[u8], tail: &[u8]) -> usize {
-    let a = append(out, 0, head);
-    let b = put(out, a, (text.len() % 256) as u8);
-    let c = append(out, b, text);
-    append(out, c, tail)
-}
-
-fn placed_fronts(
-    op: u8,
-    head: &[u8],
-    text: &[u8],
-    tail: &[u8],
-    records: &mut [u8],
-    scratch: &mut [u8],
-    before: u64,
-) -> u64 {
-    let mut out = [0u8; 1024];
-    let mut sum = before;
-    let mut n = 0;
-    while n < text.len() {
-        n += 1;
-        let end = placed(&mut out, head, first(text, n), tail);
-        sum = with_reading(op, first(&out, end), records, scratch, sum);
-    }
-    sum
 }
 
 // The payload with each part of a text in the text's place. Its length byte stands at a place of the payload.
-pub fn placed_parts(
-    op: u8,
-    payload: &[u8],
-    place: usize,
-    records: &mut [u8],
-    scratch: &mut [u8],
-) -> u64 {
-    let len = byte_at(payload, place) as usize;
+pub fn placed_parts(payload: &[u8], place: usize, sum: &mut Sum) {
     let head = first(payload, place);
-    let rest = behind(behind(payload, place), 1);
-    let text = first(rest, len);
-    let tail = behind(rest, len);
-    let mut sum = 0;
-    let mut from = 0;
-    while from < text.len() {
-        sum = placed_fronts(op, head, behind(text, from), tail, records, scratch, sum);
-        from += 1;
+    let Some((&len, rest)) = behind(payload, place).split_first() else {
+        return;
+    };
+    let text = first(rest, usize::from(len));
+    let tail = behind(rest, usize::from(len));
+    let mut room = [0; 1024];
+    let mut whole = Text::new(&mut room);
+    for from in 0..text.len() {
+        let rest = &text[from..];
+        for n in 1..=rest.len() {
+            whole.clear();
+            put_placed(&mut whole, head, &rest[..n], tail);
+            sum.add(whole.written());
+        }
     }
-    sum
+}
+
+// A text with its length byte, between what stands before and behind it.
+fn put_placed(whole: &mut Text, head: &[u8], text: &[u8], tail: &[u8]) {
+    let len = [(text.len() % 256) as u8];
+    for &b in head.iter().chain(&len).chain(text).chain(tail) {
+        whole.put(b);
+    }
 }

@@ -1,197 +1,153 @@
-// Each call, its answer, and the state and the store after it.
-use base::Written;
-use finding::Found;
-use gathering::LinesAnswer;
-use line_call::LineAnswer;
-use replay::{bytes, fill, number, refusal, word};
-use scanner::{OpenAnswer, PushAnswer, Scanner, SkipAnswer, TakeAnswer};
+// Each call and its answer.
+use finding::Spot;
+use replay::{Case, Text, fill, first, first_mut};
+use scanner::Scanner;
 
-// The scanner, the length of the store that is lent, and the place in the text.
-#[derive(Clone, Copy)]
-pub struct State {
-    pub scanner: Scanner,
-    pub lent: usize,
-    pub k: usize,
+// The scanner and its store, of which the first `lent` bytes are lent, and what else is lent to calls: `piece` is the bytes of a push, or the output of lines
+// or acks.
+#[derive(Drop)]
+pub struct Session {
+    scanner: Scanner,
+    lent: usize,
+    store: [u8; 140000],
+    piece: [u8; 140000],
+    work: [u8; 140000],
+    plan: [u8; 512],
 }
 
-// The state after a call: the count held, the three counts of bytes and the store end its answer.
-fn after(s: Scanner, lent: usize, store: &[u8], text: &mut [u8], k: usize) -> State {
-    let held = number(text, k, s.count as u64);
-    let pushed = number(text, held, s.pushed);
-    let handed = number(text, pushed, s.handed);
-    let dropped = number(text, handed, s.dropped);
-    State {
-        scanner: s,
-        lent,
-        k: bytes(text, dropped, store),
-    }
-}
-
-fn opened(text: &mut [u8], k: usize, a: OpenAnswer) -> usize {
-    match a {
-        OpenAnswer::Open => word(text, k, b"open"),
-        OpenAnswer::Refused(r) => refusal(text, k, r),
-    }
-}
-
-pub fn open_in(limit: usize, state: State, store: &mut [u8], text: &mut [u8]) -> State {
-    fill(store, 84);
-    let o = scanner::open(limit, store);
-    let answer = o.answer;
-    let scanner = o.scanner;
-    let next = opened(text, state.k, answer);
-    after(scanner, state.lent, store, text, next)
-}
-
-fn pushed(text: &mut [u8], k: usize, a: PushAnswer) -> usize {
-    match a {
-        PushAnswer::Stored => word(text, k, b"stored"),
-        PushAnswer::Refused(r) => refusal(text, k, r),
-    }
-}
-
-pub fn push_in(state: State, store: &mut [u8], piece: &[u8], text: &mut [u8]) -> State {
-    let p = scanner::push(state.scanner, store, piece);
-    let answer = p.answer;
-    let scanner = p.scanner;
-    let next = pushed(text, state.k, answer);
-    after(scanner, state.lent, store, text, next)
-}
-
-fn found(text: &mut [u8], k: usize, f: Found) -> usize {
-    match f {
-        Found::At { at, len } => {
-            let next = number(text, k, at as u64);
-            number(text, next, len as u64)
+impl Session {
+    pub fn new() -> Self {
+        Session {
+            scanner: scanner::fresh(0),
+            lent: 0,
+            store: [0; 140000],
+            piece: [0; 140000],
+            work: [0; 140000],
+            plan: plan::house_plan(),
         }
-        Found::Nothing => word(text, k, b"none"),
-        Found::Refused(r) => refusal(text, k, r),
     }
-}
 
-fn taken(text: &mut [u8], k: usize, a: TakeAnswer) -> usize {
-    match a {
-        TakeAnswer::Span => word(text, k, b"span"),
-        TakeAnswer::Nothing => word(text, k, b"none"),
-        TakeAnswer::Refused(r) => refusal(text, k, r),
+    pub fn open(&mut self, case: Case, text: &mut Text) {
+        self.lent = case.size(2);
+        let store = first_mut(&mut self.store, self.lent);
+        fill(store, 84);
+        let opened = scanner::open(case.size(1), store);
+        self.scanner = opened.scanner;
+        text.answer(opened.answer, |text, ()| text.word(b"open"));
     }
-}
 
-// The first span: its offset and length, and its bytes.
-fn seen(s: Scanner, store: &[u8], text: &mut [u8], k: usize) -> usize {
-    let next = found(text, k, finding::find(s, store));
-    bytes(text, next, finding::look(s, store))
-}
-
-pub fn take_in(state: State, store: &mut [u8], text: &mut [u8]) -> State {
-    let sought = seen(state.scanner, store, text, state.k);
-    let t = scanner::take(state.scanner, store);
-    let answer = t.answer;
-    let scanner = t.scanner;
-    let next = taken(text, sought, answer);
-    after(scanner, state.lent, store, text, next)
-}
-
-fn skipped(text: &mut [u8], k: usize, a: SkipAnswer) -> usize {
-    match a {
-        SkipAnswer::Gone => word(text, k, b"gone"),
-        SkipAnswer::Refused(r) => refusal(text, k, r),
+    pub fn set(&mut self, case: Case) {
+        self.scanner = Scanner {
+            limit: case.size(1),
+            count: case.size(2),
+            pushed: case.number(3),
+            handed: case.number(4),
+            dropped: case.number(5),
+        };
     }
-}
 
-pub fn skip_in(
-    dropped: usize,
-    handed: usize,
-    state: State,
-    store: &mut [u8],
-    text: &mut [u8],
-) -> State {
-    let s = scanner::skip(state.scanner, store, dropped, handed);
-    let answer = s.answer;
-    let scanner = s.scanner;
-    let next = skipped(text, state.k, answer);
-    after(scanner, state.lent, store, text, next)
-}
+    pub fn push_bytes(&mut self, case: Case, text: &mut Text) {
+        let store = first_mut(&mut self.store, self.lent);
+        let piece = case.hex(1, &mut self.piece);
+        text.answer(
+            self.scanner.push(store, piece),
+            |text, ()| text.word(b"stored"),
+        );
+    }
 
-fn lined(text: &mut [u8], k: usize, a: LineAnswer) -> usize {
-    match a {
-        LineAnswer::Line(n) => {
-            let next = word(text, k, b"line");
-            number(text, next, n as u64)
+    pub fn push_copies(&mut self, case: Case, text: &mut Text) {
+        let store = first_mut(&mut self.store, self.lent);
+        let piece = first_mut(&mut self.piece, case.size(1));
+        piece.fill(case.byte(2));
+        text.answer(
+            self.scanner.push(store, piece),
+            |text, ()| text.word(b"stored"),
+        );
+    }
+
+    // The first span, its offset and length and its bytes, and whether it went.
+    pub fn take(&mut self, text: &mut Text) {
+        let store = first_mut(&mut self.store, self.lent);
+        text.answer(finding::find(self.scanner, store), found);
+        text.bytes(finding::look(self.scanner, store));
+        text.answer(self.scanner.take(store), |text, span| {
+            text.word(if span { b"span" } else { b"none" })
+        });
+    }
+
+    pub fn skip(&mut self, case: Case, text: &mut Text) {
+        let store = first_mut(&mut self.store, self.lent);
+        let skipped = scanner::skip(self.scanner, store, case.size(1), case.size(2));
+        self.scanner = skipped.scanner;
+        text.answer(skipped.answer, |text, ()| text.word(b"gone"));
+    }
+
+    // A line call, a call for all lines or a station call, and what the work area and the output hold after it.
+    pub fn write(&mut self, case: Case, text: &mut Text) {
+        let store = first_mut(&mut self.store, self.lent);
+        let work = lent_part(&mut self.work, case.size(1));
+        let out = lent_part(&mut self.piece, case.size(2));
+        let plan = first(&self.plan, case.size(3));
+        match case.letter() {
+            b'l' => {
+                let lined = line_call::line(self.scanner, store, plan, work, out);
+                self.scanner = lined.scanner;
+                text.answer(lined.answer, line_of);
+            }
+            b'a' => {
+                let lines = gathering::all_lines(self.scanner, store, plan, work, out);
+                self.scanner = lines.scanner;
+                text.size(lines.ready);
+                text.answer(lines.answer, |text, ()| text.word(b"none"));
+            }
+            _ => {
+                let acked = acks::acknowledge(self.scanner, store, work, out);
+                self.scanner = acked.scanner;
+                text.answer(acked.answer, acks_of);
+            }
         }
-        LineAnswer::Nothing => word(text, k, b"none"),
-        LineAnswer::Refused(r) => refusal(text, k, r),
+        text.bytes(work);
+        text.bytes(out);
+    }
+
+    // The count held, the three counts of bytes and the store.
+    pub fn tell(&self, text: &mut Text) {
+        text.size(self.scanner.count);
+        text.number(self.scanner.pushed);
+        text.number(self.scanner.handed);
+        text.number(self.scanner.dropped);
+        text.bytes(first(&self.store, self.lent));
     }
 }
 
-// The work area and the output after a call.
-fn areas(text: &mut [u8], k: usize, work: &[u8], out: &[u8]) -> usize {
-    let next = bytes(text, k, work);
-    bytes(text, next, out)
-}
-
-pub fn line_in(
-    state: State,
-    store: &mut [u8],
-    plan: &[u8],
-    work: &mut [u8],
-    out: &mut [u8],
-    text: &mut [u8],
-) -> State {
-    let l = line_call::line(state.scanner, store, plan, work, out);
-    let answer = l.answer;
-    let scanner = l.scanner;
-    let told = lined(text, state.k, answer);
-    let next = areas(text, told, work, out);
-    after(scanner, state.lent, store, text, next)
-}
-
-fn ended(text: &mut [u8], k: usize, ready: usize, a: LinesAnswer) -> usize {
-    let next = number(text, k, ready as u64);
-    match a {
-        LinesAnswer::NoneLeft => word(text, next, b"none"),
-        LinesAnswer::Refused(r) => refusal(text, next, r),
-    }
-}
-
-pub fn all_lines_in(
-    state: State,
-    store: &mut [u8],
-    plan: &[u8],
-    work: &mut [u8],
-    out: &mut [u8],
-    text: &mut [u8],
-) -> State {
-    let l = gathering::all_lines(state.scanner, store, plan, work, out);
-    let ready = l.ready;
-    let answer = l.answer;
-    let scanner = l.scanner;
-    let told = ended(text, state.k, ready, answer);
-    let next = areas(text, told, work, out);
-    after(scanner, state.lent, store, text, next)
-}
-
-fn acked(text: &mut [u8], k: usize, a: Written) -> usize {
-    match a {
-        Written::Bytes(n) => {
-            let next = word(text, k, b"acks");
-            number(text, next, n as u64)
+fn found(text: &mut Text, spot: Option<Spot>) {
+    match spot {
+        Some(Spot { at, len }) => {
+            text.size(at);
+            text.size(len);
         }
-        Written::Refused(r) => refusal(text, k, r),
+        None => text.word(b"none"),
     }
 }
 
-pub fn acknowledge_in(
-    state: State,
-    store: &mut [u8],
-    work: &mut [u8],
-    out: &mut [u8],
-    text: &mut [u8],
-) -> State {
-    let a = acks::acknowledge(state.scanner, store, work, out);
-    let answer = a.answer;
-    let scanner = a.scanner;
-    let told = acked(text, state.k, answer);
-    let next = areas(text, told, work, out);
-    after(scanner, state.lent, store, text, next)
+fn line_of(text: &mut Text, len: Option<usize>) {
+    match len {
+        Some(n) => {
+            text.word(b"line");
+            text.size(n);
+        }
+        None => text.word(b"none"),
+    }
+}
+
+fn acks_of(text: &mut Text, len: usize) {
+    text.word(b"acks");
+    text.size(len);
+}
+
+// A part of a buffer, filled anew.
+fn lent_part(buf: &mut [u8], n: usize) -> &mut [u8] {
+    let part = first_mut(buf, n);
+    fill(part, 84);
+    part
 }

@@ -1,86 +1,61 @@
 // The calls, and their answers in words.
-use noise::{NoiseAnswer, NoiseMode, NoiseReport, decode_noise};
-use reading::OptionByte;
-use replay::{number, put, refusal, word};
+use noise::{NoiseMode, NoiseReport, decode_noise};
+use replay::Text;
 use window::{NoiseCounts, NoiseWindow, counts, push};
 
-// The window after a call, and the next place of the text.
-#[derive(Clone, Copy)]
-pub struct Step {
-    pub window: NoiseWindow,
-    pub end: usize,
-}
-
-fn mode_word(mode: NoiseMode, text: &mut [u8], k: usize) -> usize {
-    match mode {
-        NoiseMode::Off => word(text, k, b"off"),
-        NoiseMode::Anc => word(text, k, b"anc"),
-        NoiseMode::Ambient => word(text, k, b"ambient"),
-    }
-}
-
-fn level_words(level: OptionByte, text: &mut [u8], k: usize) -> usize {
-    match level {
-        OptionByte::Byte(b) => {
-            let a = word(text, k, b"level");
-            number(text, a, b as u64)
+fn report(text: &mut Text, r: NoiseReport) {
+    text.word(match r.mode {
+        NoiseMode::Off => b"off",
+        NoiseMode::Anc => b"anc",
+        NoiseMode::Ambient => b"ambient",
+    });
+    match r.ambient_level {
+        Some(level) => {
+            text.word(b"level");
+            text.byte(level);
         }
-        OptionByte::NoByte => word(text, k, b"no level"),
+        None => text.word(b"no level"),
     }
 }
 
-fn report(r: NoiseReport, text: &mut [u8], k: usize) -> usize {
-    let mode = r.mode;
-    let level = r.ambient_level;
-    let a = mode_word(mode, text, k);
-    level_words(level, text, a)
+pub fn decoded(payload: &[u8], text: &mut Text) {
+    text.answer(decode_noise(payload), report);
 }
 
-pub fn decoded(payload: &[u8], text: &mut [u8], k: usize) -> usize {
+// The counts, joined by commas.
+pub fn told(window: NoiseWindow, text: &mut Text) {
+    let NoiseCounts {
+        off,
+        anc,
+        ambient,
+        level,
+    } = counts(window);
+    text.number(off);
+    for n in [anc, ambient, level] {
+        text.end_with(b',');
+        text.number(n);
+    }
+}
+
+// The window after a payload, which is handed in where the decoder accepts it.
+pub fn handed(window: NoiseWindow, payload: &[u8], text: &mut Text) -> NoiseWindow {
     match decode_noise(payload) {
-        NoiseAnswer::Report(r) => report(r, text, k),
-        NoiseAnswer::Refused(r) => refusal(text, k, r),
+        Ok(r) => {
+            let next = push(window, r);
+            told(next, text);
+            next
+        }
+        Err(r) => {
+            text.refusal(r);
+            window
+        }
     }
 }
 
-// A number with a comma in the place of its blank.
-fn number_comma(text: &mut [u8], k: usize, n: u64) -> usize {
-    let a = number(text, k, n);
-    if a == 0 {
-        return a;
-    }
-    put(text, a - 1, b',')
-}
-
-fn four(c: NoiseCounts, text: &mut [u8], k: usize) -> usize {
-    let a = number_comma(text, k, c.off);
-    let b = number_comma(text, a, c.anc);
-    let d = number_comma(text, b, c.ambient);
-    number(text, d, c.level)
-}
-
-pub fn told(window: NoiseWindow, text: &mut [u8], k: usize) -> Step {
-    Step {
-        window,
-        end: four(counts(window), text, k),
-    }
-}
-
-// A payload is handed in where the decoder accepts it.
-pub fn handed(window: NoiseWindow, payload: &[u8], text: &mut [u8], k: usize) -> Step {
-    match decode_noise(payload) {
-        NoiseAnswer::Report(r) => told(push(window, r), text, k),
-        NoiseAnswer::Refused(r) => Step {
-            window,
-            end: refusal(text, k, r),
-        },
-    }
-}
-
-pub fn fields(window: NoiseWindow, text: &mut [u8], k: usize) -> usize {
-    let a = number(text, k, window.width);
-    let b = number(text, a, window.off);
-    let c = number(text, b, window.anc);
-    let d = number(text, c, window.ambient);
-    number(text, d, window.level)
+pub fn fields(window: NoiseWindow, text: &mut Text) {
+    text.number(window.width);
+    text.number(window.off);
+    text.number(window.anc);
+    text.number(window.ambient);
+    text.number(window.level);
 }

@@ -4,19 +4,19 @@ use mathlib.Core.Path.{◌≡◌, refl, sym, ap, ◌∙◌}
 use mathlib.Core.Bool.{Bool, true, false}
 use mathlib.Core.List.{List, [], ◌++◌}
 use native.Mathlib.Omega.{arith}
-use native.Mathlib.Numerals.{add-one}
 use lib.Dec.{ltb}
-use lib.ListN.{length, take, drop, get_or, set, replicate, length-append, length-drop, length-replicate}
-use lib.Seq.{take_at, length-take-le, paste, paste-suc}
+use lib.ListN.{length, take, drop, replicate, length-append, length-drop, length-replicate}
+use lib.Seq.{take_at, length-take-le}
 use borrow.Author.Tests.{ltb-false, lt-ltb, le-ltb}
-use Rattle.base.specs.Outcome.{Outcome, accepted, refused, pick}
+use Rattle.base.specs.Outcome.{Outcome, accepted, refused, pick, on_accepted, and_then}
 use Rattle.held.specs.Going.{let_go}
 use Rattle.held.proofs.LawsGoing.{zeroed_length}
-use Rattle.scanner.specs.Scanner.{fresh, holding, GREATEST, too_far, counted_of, refuses, counting, held_of, open_by, open_call, pushing, push_call, checked_told}
+use Rattle.scanner.specs.Scanner.{Effect, fresh, holding, GREATEST, too_far, counted_of, refuses, counting, held_of, open_by, open_call, pushing, push_call, checked_told}
 use Rattle.scanner.specs.declared.scanner.Scanner.{Scanner}
 use Rattle.cutting.specs.declared.deciding.Moved.{Moved}
-use Rattle.scanner.specs.declared.scanner.Checked.{Checked}
-use Rattle.scanner.specs.declared.scanner.Checked.TheVariants.{Fine}
+use Rattle.std.specs.Prelude.{Result, Ok, Err, is_ok}
+use Rattle.base.specs.Refusal.{outcome_of}
+use Rattle.base.specs.declared.refusal.Refusal.{Refusal}
 
 pub record Admitted (s : Scanner) (store held : List ℕ) : Type 0 where
   pub low : 9 ≤ s.limit
@@ -46,10 +46,18 @@ pub admitted : (s : Scanner) (store held : List ℕ) → held_of s store ≡ acc
 admitted s store held e = rw e at (held_admits s store)
 
 -- the code's checks have passed
-pub passed : (s : Scanner) (store held : List ℕ) (x : Checked) → checked_told x held ≡ held_of s store → x ≡ Fine → held_of s store ≡ accepted held
-passed s store held x told e = sym told ∙ ap (λ (y : Checked). checked_told y held) e
+pub held_fits : (s : Scanner) (store held : List ℕ) → accepted held ≡ held_of s store → s.count ≤ length store
+held_fits s store held e = (admitted s store held (sym e)).fits
 
-pub fine : (s : Scanner) (store held : List ℕ) (x : Checked) → checked_told x held ≡ held_of s store → x ≡ Fine → Admitted s store held
+pub held_count : (s : Scanner) (store held : List ℕ) → accepted held ≡ held_of s store → s.count ≡ length (take s.count store)
+held_count s store held e = sym (length-take-le s.count store (held_fits s store held e))
+
+pub ruleset held_known = (held_fits, held_count)
+
+pub passed : (s : Scanner) (store held : List ℕ) (x : Result (Unit {0}) Refusal) → checked_told x held ≡ held_of s store → x ≡ (Ok tt) → held_of s store ≡ accepted held
+passed s store held x told e = sym told ∙ ap (λ (y : Result (Unit {0}) Refusal). checked_told y held) e
+
+pub fine : (s : Scanner) (store held : List ℕ) (x : Result (Unit {0}) Refusal) → checked_told x held ≡ held_of s store → x ≡ (Ok tt) → Admitted s store held
 fine s store held x told e = admitted s store held (passed s store held x told e)
 
 -- and the other way: 1 to 3 do not apply
@@ -57,6 +65,30 @@ admits : (s : Scanner) (store held : List ℕ) → Admitted s store held → hel
 unfolding held_of
 admits s store held a =
     rw (le-ltb s.limit 9 a.low, le-ltb 65536 s.limit a.high, le-ltb (length store) (s.limit + 1) a.room, le-ltb (length store) s.count a.fits, a.first)
+
+-- each of 1 to 3, where those before it do not apply
+module _ (s : Scanner) (store : List ℕ) where
+  pub low_limit : s.limit < 9 → refused 1 [] ≡ held_of s store
+  unfolding held_of
+  low_limit h = rw (lt-ltb s.limit 9 h)
+
+  pub high_limit : 9 ≤ s.limit → 65536 < s.limit → refused 1 [] ≡ held_of s store
+  unfolding held_of
+  high_limit a h = rw (le-ltb s.limit 9 a, lt-ltb 65536 s.limit h)
+
+  pub short_store : 9 ≤ s.limit → s.limit ≤ 65536 → length store ≤ s.limit → refused 2 [] ≡ held_of s store
+  unfolding held_of
+  short_store a b h = rw (le-ltb s.limit 9 a, le-ltb 65536 s.limit b, lt-ltb (length store) (s.limit + 1) (omega arith))
+
+  pub held_beyond : 9 ≤ s.limit → s.limit ≤ 65536 → s.limit < length store → length store < s.count → refused 3 [] ≡ held_of s store
+  unfolding held_of
+  held_beyond a b k h = rw (le-ltb s.limit 9 a, le-ltb 65536 s.limit b, le-ltb (length store) (s.limit + 1) (omega arith), lt-ltb (length store) s.count h)
+
+  pub none_applies : 9 ≤ s.limit → s.limit ≤ 65536 → s.limit < length store → s.count ≤ length store → accepted (take s.count store) ≡ held_of s store
+  unfolding held_of
+  none_applies a b k h = rw (le-ltb s.limit 9 a, le-ltb 65536 s.limit b, le-ltb (length store) (s.limit + 1) (omega arith), le-ltb (length store) s.count h)
+
+pub ruleset checks = (low_limit, high_limit, short_store, held_beyond, none_applies)
 
 -- no count is carried too far
 pub record Fits (s : Scanner) (m : Moved) : Type 0 where
@@ -68,27 +100,6 @@ module _ (s : Scanner) (m : Moved) where
   pub fits_near : Fits s m → too_far s m ≡ false
   unfolding too_far
   fits_near f = rw (le-ltb GREATEST (s.pushed + m.pushed) f.pushed, le-ltb GREATEST (s.handed + m.handed) f.handed, le-ltb GREATEST (s.dropped + m.dropped) f.dropped)
-
-  pub far_pushed : GREATEST < s.pushed + m.pushed → too_far s m ≡ true
-  unfolding too_far
-  far_pushed h = rw (lt-ltb GREATEST (s.pushed + m.pushed) h)
-
-  pub far_handed : GREATEST < s.handed + m.handed → too_far s m ≡ true
-  unfolding too_far
-  far_handed h = rw (lt-ltb GREATEST (s.handed + m.handed) h) (go (ltb GREATEST (s.pushed + m.pushed)))
-    where
-      go : (t : Bool) → pick t true true ≡ true
-      go true = refl
-      go false = refl
-
-  pub far_dropped : GREATEST < s.dropped + m.dropped → too_far s m ≡ true
-  unfolding too_far
-  far_dropped h = rw (lt-ltb GREATEST (s.dropped + m.dropped) h) (go (ltb GREATEST (s.pushed + m.pushed)) (ltb GREATEST (s.handed + m.handed)))
-    where
-      go : (t u : Bool) → pick t true (pick u true true) ≡ true
-      go true u = refl
-      go false true = refl
-      go false false = refl
 
   pub near_fits : too_far s m ≡ false → Fits s m
   unfolding too_far
@@ -108,6 +119,26 @@ module _ (s : Scanner) (m : Moved) where
   pub counts_not : (n : ℕ) → too_far s m ≡ true → counted_of s n m ≡ refused 27 []
   unfolding counted_of
   counts_not n e = rw e
+
+-- the counts, one after the other
+abbrev counted_by : Scanner → ℕ → (pushed handed dropped : Outcome ℕ) → Outcome Scanner
+counted_by s n pushed handed dropped =
+    and_then (λ p. and_then (λ h. on_accepted (λ d. record { limit = s.limit; count = n; pushed = p; handed = h; dropped = d }) dropped) handed) pushed
+
+abbrev count_if : Bool → ℕ → Outcome ℕ
+count_if t n = pick t (refused 27 []) (accepted n)
+
+pub counted_each : (s : Scanner) (n : ℕ) (m : Moved) → let count = λ (k more : ℕ). count_if (ltb GREATEST (k + more)) (k + more) in
+    counted_of s n m ≡ counted_by s n (count s.pushed m.pushed) (count s.handed m.handed) (count s.dropped m.dropped)
+unfolding too_far counted_of
+counted_each s n m = go (ltb GREATEST (s.pushed + m.pushed)) (ltb GREATEST (s.handed + m.handed)) (ltb GREATEST (s.dropped + m.dropped))
+  where
+    go : (t u v : Bool) → pick (pick t true (pick u true v)) (refused 27 []) (accepted (holding s n m))
+        ≡ counted_by s n (count_if t (s.pushed + m.pushed)) (count_if u (s.handed + m.handed)) (count_if v (s.dropped + m.dropped))
+    go true u v = refl
+    go false true v = refl
+    go false false true = refl
+    go false false false = refl
 
 -- these bytes at the front of a store as long are held, whatever was counted
 held_front : (s : Scanner) (store held : List ℕ) → held_of s store ≡ accepted held → (n : ℕ) (m : Moved) (xs rest : List ℕ) → length xs ≡ n → length (xs ++ rest) ≡ length store
@@ -130,13 +161,24 @@ pub held_opened : (limit : ℕ) (store held : List ℕ) → held_of (fresh limit
 unfolding open_call
 held_opened limit store held e = rw e (held_front (fresh limit) store held e 0 (pushing []) [] (replicate (length store) 0) refl (length-replicate (length store) 0))
 
+-- an opening, by what the checks answer
+module _ (limit : ℕ) (store held : List ℕ) where
+  abbrev opens : Result (Unit {0}) Refusal → List ℕ → Effect (Unit {0})
+  opens x store' = record { answer = outcome_of x; scanner = fresh limit; store = store' }
+
+  pub open_fine : (x : Result (Unit {0}) Refusal) → is_ok x ≡ true → checked_told x held ≡ held_of (fresh limit) store → open_call limit store ≡ opens x (replicate (length store) 0)
+  unfolding open_call
+  open_fine (Ok passed) t e = rw (← e)
+  open_fine (Err r) t e = let z : ◌≡◌ {A = ℕ} 0 1 = cc in absurd (omega arith)
+
+  pub open_refused : (x : Result (Unit {0}) Refusal) → is_ok x ≡ false → checked_told x held ≡ held_of (fresh limit) store → open_call limit store ≡ opens x store
+  unfolding open_call
+  open_refused (Ok passed) t e = let z : ◌≡◌ {A = ℕ} 0 1 = cc in absurd (omega arith)
+  open_refused (Err r) t e = rw (← e)
+
 -- how many stay, in the code's terms
 pub stays : (s : Scanner) (store : List ℕ) (n : ℕ) → s.count ≤ length store → length (drop n (take s.count store)) ≡ s.count - n
 stays s store n h = rw (length-drop, length-take-le s.count store h)
-
--- one byte more of a copy
-pub copy_step : (d e : List ℕ) (at : ℕ) (s : List ℕ) (j : ℕ) → at + j < length d → j < length s → e ≡ paste d at s j → set e (at + j) (get_or s j 0) ≡ paste d at s (j + 1)
-copy_step d e at s j h k p = rw (p, paste-suc d at s j 0 h k, add-one)
 
 -- a push past 1 to 3: 4, or 27, or the piece behind the held bytes
 module _ (s : Scanner) (store held piece : List ℕ) (e : held_of s store ≡ accepted held) where

@@ -1,5 +1,5 @@
 -- What a take comes to once 1 to 3 do not apply, and how it agrees with push.
-use Prim.Native.Nat.{ℕ, ◌≤◌, ◌<◌}
+use Prim.Native.Nat.{ℕ, ◌+◌, ◌≤◌, ◌<◌}
 use mathlib.Core.Path.{◌≡◌, refl}
 use mathlib.Core.Bool.{Bool, true, false}
 use mathlib.Core.List.{List, [], ◌∷◌}
@@ -7,14 +7,25 @@ use native.Mathlib.Omega.{arith}
 use lib.ListN.{length}
 use Rattle.base.specs.Outcome.{Outcome, accepted, refused}
 use Rattle.held.specs.Going.{let_go}
-use Rattle.cutting.specs.Cutting.{taken_of, moved_of, goes_of, keeps_of, is_span}
-use Rattle.cutting.proofs.LawsCutting.{keeps_limit}
-use Rattle.scanner.specs.Scanner.{Effect, holding, GREATEST, too_far, refuses, held_of, push_call}
+use Rattle.cutting.specs.Cutting.{taken_of, moved_of, goes_of, keeps_of, is_span, cut_of}
+use Rattle.cutting.specs.declared.deciding.Cut.{Cut}
+use Rattle.cutting.specs.declared.deciding.Moved.{Moved}
+use Rattle.cutting.proofs.LawsCutting.{goes_within, keeps_limit}
+use Rattle.scanner.specs.Scanner.{Effect, holding, GREATEST, too_far, refuses, held_of, gone, push_call}
 use Rattle.scanner.specs.Taking.{take_call}
 use Rattle.scanner.specs.declared.scanner.Scanner.{Scanner}
-use Rattle.scanner.proofs.LawsScanner.{admitted, near_fits, counts, counts_not, push_stored, gone_length, held_gone}
+use Rattle.scanner.proofs.LawsScanner.{admitted, near_fits, counts, counts_not, push_stored, held_length, gone_length, held_gone}
 
 module _ (s : Scanner) (store held : List ℕ) (e : held_of s store ≡ accepted held) where
+  -- in the code's terms
+  module _ (cut : Cut) (m : Moved) (c : cut ≡ cut_of s.limit held) (f : m ≡ record { pushed = 0; handed = cut.handed; dropped = cut.dropped }) where
+    pub take_gone : take_call s store ≡ gone cut.span s held store m
+    unfolding take_call
+    take_gone = rw (e, f, c)
+
+    pub take_within : m.dropped + m.handed ≤ s.count
+    take_within = rw (f, c) (omega (arith, goes_within s.limit held, held_length s store held e))
+
   -- 27, or what goes is counted
   pub take_far : too_far s (moved_of s.limit held) ≡ true → take_call s store ≡ refuses 27 [] s store
   unfolding take_call

@@ -1,18 +1,11 @@
 -- 01, "Scanner": the state, the refusals 1 to 4, opening, push, and letting held bytes go. 02, C-17: the counts, and 27.
-use Rattle.std.specs.Prelude.{ℕ, ◌+◌, Bool, true, List, [], ◌++◌, ltb, length, take, drop, replicate}
+use Rattle.std.specs.Prelude.{ℕ, ◌+◌, Bool, true, List, [], ◌++◌, ltb, length, take, drop, replicate, Result, Ok, Err}
 use Rattle.base.specs.Outcome.{Outcome, accepted, refused, pick}
 use Rattle.base.specs.Refusal.{refusal_told}
 use Rattle.held.specs.Going.{let_go}
 use Rattle.scanner.specs.declared.scanner.Scanner.{Scanner}
 use Rattle.cutting.specs.declared.deciding.Moved.{Moved}
-use Rattle.scanner.specs.declared.scanner.Counted.{Counted}
-use Rattle.scanner.specs.declared.scanner.Counted.TheVariants as N
-use Rattle.scanner.specs.declared.scanner.Checked.{Checked}
-use Rattle.scanner.specs.declared.scanner.Checked.TheVariants as C
-use Rattle.scanner.specs.declared.scanner.OpenAnswer.{OpenAnswer}
-use Rattle.scanner.specs.declared.scanner.OpenAnswer.TheVariants as O
-use Rattle.scanner.specs.declared.scanner.PushAnswer.{PushAnswer}
-use Rattle.scanner.specs.declared.scanner.PushAnswer.TheVariants as P
+use Rattle.base.specs.declared.refusal.Refusal.{Refusal}
 
 -- "the state is the limit L .. and the count held", and "three counts of eight bytes: bytes pushed, bytes in spans handed over, bytes dropped or cleared": nothing held, nothing counted
 abbrev pub fresh : ℕ → Scanner
@@ -91,18 +84,6 @@ gone a s held store m =
     counting (counted_of s (length (drop n held)) m) a s store (let_go held n store)
 
 -- the answers in 01's numbers
-abbrev pub checked_told : Checked → List ℕ → Outcome (List ℕ)
-checked_told C.Fine held = accepted held
-checked_told (C.Refused r) held = refusal_told r
-
-abbrev pub counted_told : Counted → Outcome Scanner
-counted_told (N.Next s) = accepted s
-counted_told (N.Refused r) = refusal_told r
-
-abbrev pub open_told : OpenAnswer → Outcome (Unit {0})
-open_told O.Open = accepted tt
-open_told (O.Refused r) = refusal_told r
-
-abbrev pub push_told : PushAnswer → Outcome (Unit {0})
-push_told P.Stored = accepted tt
-push_told (P.Refused r) = refusal_told r
+abbrev pub checked_told : Result (Unit {0}) Refusal → List ℕ → Outcome (List ℕ)
+checked_told (Ok passed) held = accepted held
+checked_told (Err r) held = refusal_told r

@@ -1,12 +1,9 @@
 -- A call of ours: the first held bytes go as spans go by take, several by one move.
 use Rattle.std.specs.Prelude.{ℕ, List, length, take, drop}
 use Rattle.base.specs.Outcome.{Outcome, accepted, refused}
-use Rattle.base.specs.Refusal.{refusal_told}
 use Rattle.scanner.specs.Scanner.{Effect, refuses, held_of, gone}
 use Rattle.scanner.specs.declared.scanner.Scanner.{Scanner}
 use Rattle.cutting.specs.declared.deciding.Moved.{Moved}
-use Rattle.scanner.specs.declared.skipping.SkipAnswer.{SkipAnswer}
-use Rattle.scanner.specs.declared.skipping.SkipAnswer.TheVariants.{Gone, Refused}
 
 -- so many held bytes are dropped, and so many behind them go in spans; no more than are held
 abbrev pub skipping : (held : List ℕ) → (dropped handed : ℕ) → Moved
@@ -19,8 +16,3 @@ skip_by (accepted held) s store dropped handed = gone tt s held store (skipping 
 
 unfoldable pub skip_call : Scanner → List ℕ → (dropped handed : ℕ) → Effect (Unit {0})
 skip_call s store dropped handed = skip_by (held_of s store) s store dropped handed
-
--- the answer in 01's numbers
-abbrev pub skip_told : SkipAnswer → Outcome (Unit {0})
-skip_told Gone = accepted tt
-skip_told (Refused r) = refusal_told r

@@ -9,9 +9,6 @@ mod taking;
 
 pub use cutting::Moved;
 pub use held::{Sight, seek};
-pub use scanner::{
-    Checked, Counted, OpenAnswer, Opened, PushAnswer, Pushed, Scanner, advance, check, fresh, open,
-    push,
-};
-pub use skipping::{SkipAnswer, Skipped, skip};
-pub use taking::{TakeAnswer, Taken, take};
+pub use scanner::{Opened, Pushed, Scanner, advance, check, fresh, open, push};
+pub use skipping::{Skipped, skip};
+pub use taking::{Taken, take};

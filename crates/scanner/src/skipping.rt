@@ -1,53 +1,51 @@
 // Several spans may go by one move: a caller that has read them where they stand skips them together.
-ghost use Rattle.std.specs.Prelude.{◌≡◌, min};
-ghost use Rattle.scanner.specs.Skipping.{skip_call, skip_told};
+ghost use Rattle.std.specs.Prelude.{◌≡◌};
+ghost use Rattle.scanner.specs.Skipping.{skip_call};
+ghost use Rattle.base.specs.Refusal.{outcome_of};
 
 use crate::going::go;
-use crate::scanner::{Checked, Counted, Scanner, check};
+use crate::scanner::{Scanner, check};
+use cutting::Moved;
 use frame::Refusal;
 
 #[derive(Clone, Copy)]
-pub enum SkipAnswer {
-    Gone,
-    Refused(Refusal),
-}
-
-#[derive(Clone, Copy)]
 pub struct Skipped {
-    pub answer: SkipAnswer,
+    pub answer: Result<(), Refusal>,
     pub scanner: Scanner,
 }
 
-fn at_most(n: usize, most: usize) -> usize
-    ensures { result ≡ min n most }
-{
-    if n < most { n } else { most }
+impl Scanner {
+    // Of the first held bytes so many are dropped, and so many go in spans; no more than are held.
+    #[tactic(auto, using(crate::proofs::LawsScanner::held_known))]
+    fn let_spans_go(
+        &mut self,
+        store: &mut [u8],
+        dropped: usize,
+        handed: usize,
+    ) -> Result<(), Refusal>
+        ensures result_value { outcome_of result ≡ (skip_call self.old store.old dropped handed).answer }
+        ensures self_after { self.new ≡ (skip_call self.old store.old dropped handed).scanner }
+        ensures store_after { store.new ≡ (skip_call self.old store.old dropped handed).store }
+    {
+        check(*self, store)?;
+        let dropped = dropped.min(self.count);
+        let handed = handed.min(self.count - dropped);
+        let moved = Moved {
+            pushed: 0,
+            handed,
+            dropped,
+        };
+        *self = go(*self, store, moved)?;
+        Ok(())
+    }
 }
 
-// Of the first held bytes so many are dropped, and so many go in spans; no more than are held.
-pub fn skip(scanner: Scanner, store: &mut [u8], dropped: usize, handed: usize) -> Skipped
-    ensures answer_value { skip_told result.answer ≡ (skip_call scanner store.old dropped handed).answer }
+// By value: the state comes back beside the answer.
+pub fn skip(mut scanner: Scanner, store: &mut [u8], dropped: usize, handed: usize) -> Skipped
+    ensures answer_value { outcome_of result.answer ≡ (skip_call scanner store.old dropped handed).answer }
     ensures scanner_value { result.scanner ≡ (skip_call scanner store.old dropped handed).scanner }
     ensures store_after { store.new ≡ (skip_call scanner store.old dropped handed).store }
 {
-    match check(scanner, store) {
-        Checked::Refused(r) => Skipped {
-            answer: SkipAnswer::Refused(r),
-            scanner: scanner,
-        },
-        Checked::Fine => {
-            let first = at_most(dropped, scanner.count);
-            let behind = at_most(handed, scanner.count - first);
-            match go(scanner, store, first, behind) {
-                Counted::Refused(r) => Skipped {
-                    answer: SkipAnswer::Refused(r),
-                    scanner: scanner,
-                },
-                Counted::Next(next) => Skipped {
-                    answer: SkipAnswer::Gone,
-                    scanner: next,
-                },
-            }
-        }
-    }
+    let answer = scanner.let_spans_go(store, dropped, handed);
+    Skipped { answer, scanner }
 }

@@ -1,21 +1,13 @@
 -- 02, C-11: `decode_general_setting_info`; C-13: the characters of its texts.
-use Rattle.std.specs.Prelude.{ℕ, ◌+◌, true, List, [], eqb, leb, get_or, take, drop}
+use Rattle.std.specs.Prelude.{ℕ, ◌+◌, true, List, [], eqb, leb, get_or, take, drop, Option, Some, None}
 use Rattle.base.specs.Outcome.{Outcome, accepted, refused, pick}
 use Rattle.base.specs.Refusal.{refusal_told}
 use Rattle.reading.specs.Message.{kind_of, body_at}
 use Rattle.reading.specs.Items.{Size, headed, Items, item_at}
 use Rattle.reading.specs.Reading.{reading_of}
 use Rattle.text.specs.Text.{characters_of}
-use Rattle.text.specs.declared.text.Characters.{Characters}
-use Rattle.text.specs.declared.text.Characters.TheVariants.{Number, NoText}
 use Rattle.setting_info.specs.declared.setting_info.SettingText.{SettingText}
 use Rattle.setting_info.specs.declared.setting_info.GeneralSetting.{GeneralSetting}
-use Rattle.setting_info.specs.declared.setting_info.SettingInfoAnswer.{SettingInfoAnswer}
-use Rattle.setting_info.specs.declared.setting_info.SettingInfoAnswer.TheVariants.{Info, Refused}
-
-abbrev pub info_told : SettingInfoAnswer → Outcome GeneralSetting
-info_told (Info s) = accepted s
-info_told (Refused r) = refusal_told r
 
 -- "each a length byte and its bytes"
 abbrev pub text_size : Size
@@ -40,9 +32,9 @@ abbrev pub text_at : List ℕ → ℕ → ℕ → SettingText
 text_at payload at characters = record { offset = at + 1; len = get_or payload at 0; characters = characters }
 
 -- "23, a text outside RFC 3629"; else its number of characters goes on
-abbrev pub where_text : {A : Type 0} → Characters → (ℕ → Outcome A) → Outcome A
-where_text (Number n) on = on n
-where_text NoText on = refused 23 []
+abbrev pub where_text : {A : Type 0} → Option ℕ → (ℕ → Outcome A) → Outcome A
+where_text (Some n) on = on n
+where_text None on = refused 23 []
 
 abbrev pub checked_texts : List ℕ → Outcome GeneralSetting
 checked_texts p =

@@ -3,6 +3,4 @@
 
 mod setting_info;
 
-pub use setting_info::{
-    GeneralSetting, SettingInfoAnswer, SettingText, decode_general_setting_info,
-};
+pub use setting_info::{GeneralSetting, SettingText, decode_general_setting_info};

@@ -1,9 +1,10 @@
 // The name and the summary of the setting in a slot.
 ghost use Rattle.std.specs.Prelude.{◌≡◌};
-ghost use Rattle.setting_info.specs.SettingInfo.{info_told, info_of};
+ghost use Rattle.setting_info.specs.SettingInfo.{info_of};
+ghost use Rattle.base.specs.Refusal.{outcome_of};
 
 use frame::Refusal;
-use text::{Characters, count_characters};
+use text::count_characters;
 
 const GS_BOOLEAN_TYPE: u8 = 0x00;
 // The last of the two string formats.
@@ -24,45 +25,35 @@ pub struct GeneralSetting {
     pub summary: SettingText,
 }
 
-#[derive(Clone, Copy)]
-pub enum SettingInfoAnswer {
-    Info(GeneralSetting),
-    Refused(Refusal),
-}
-
-pub fn decode_general_setting_info(payload: &[u8]) -> SettingInfoAnswer
-    ensures { info_told result ≡ info_of payload.now }
+pub fn decode_general_setting_info(payload: &[u8]) -> Result<GeneralSetting, Refusal>
+    ensures { outcome_of result ≡ info_of payload.now }
 {
     let len = payload.len();
     if len < 2 {
-        return SettingInfoAnswer::Refused(Refusal::WrongKind);
+        return Err(Refusal::WrongKind);
     }
     if len < 6 {
-        return SettingInfoAnswer::Refused(Refusal::WrongLength);
+        return Err(Refusal::WrongLength);
     }
     let name_len = payload[4] as usize;
     let name_end = 5 + name_len;
     if len <= name_end {
-        return SettingInfoAnswer::Refused(Refusal::WrongLength);
+        return Err(Refusal::WrongLength);
     }
     let summary_len = payload[name_end] as usize;
     let summary = name_end + 1;
     if len - summary != summary_len {
-        return SettingInfoAnswer::Refused(Refusal::WrongLength);
+        return Err(Refusal::WrongLength);
     }
     if payload[2] != GS_BOOLEAN_TYPE {
-        return SettingInfoAnswer::Refused(Refusal::OtherMessage);
+        return Err(Refusal::OtherMessage);
     }
     if payload[3] > GS_ENUM_NAME {
-        return SettingInfoAnswer::Refused(Refusal::OtherMessage);
+        return Err(Refusal::OtherMessage);
     }
-    let Characters::Number(name_characters) = count_characters(&payload[5..name_end]) else {
-        return SettingInfoAnswer::Refused(Refusal::NotText);
-    };
-    let Characters::Number(summary_characters) = count_characters(&payload[summary..len]) else {
-        return SettingInfoAnswer::Refused(Refusal::NotText);
-    };
-    SettingInfoAnswer::Info(GeneralSetting {
+    let name_characters = count_characters(&payload[5..name_end]).ok_or(Refusal::NotText)?;
+    let summary_characters = count_characters(&payload[summary..len]).ok_or(Refusal::NotText)?;
+    Ok(GeneralSetting {
         slot: payload[1],
         name: SettingText {
             offset: 5,

@@ -9,10 +9,7 @@ use lib.ListN.{length, drop}
 use borrow.Author.Tests.{ltb-true, ltb-false}
 use Rattle.base.specs.Outcome.{Outcome, accepted, refused, pick}
 use Rattle.base.specs.Refusal.{number_of}
-use Rattle.base.specs.Writing.{written_told}
 use Rattle.base.specs.declared.refusal.Refusal.{Refusal}
-use Rattle.base.specs.declared.writing.Written.{Written}
-use Rattle.base.specs.declared.writing.Written.TheVariants.{Bytes, Refused}
 use Rattle.held.specs.Going.{let_go}
 use Rattle.cutting.specs.declared.deciding.Moved.{Moved}
 use Rattle.scanner.specs.Scanner.{holding, too_far, counting, held_of}
@@ -23,6 +20,8 @@ use Rattle.draining.proofs.LawsDraining.{drain_gone}
 use Rattle.acks.specs.Acks.{acks_in, station_call}
 use Rattle.acks.proofs.LawsAcks.{acks_bound}
 use Rattle.acks.proofs.LawsStation.{whole_stored, station_refused, station_short, station_far, station_near}
+use Rattle.std.specs.Prelude.{Result, Ok, Err}
+use Rattle.base.specs.Refusal.{outcome_of}
 
 -- a scanner and its store are refused by 1 to 3
 abbrev Low : Outcome (List ℕ) → Type 0
@@ -77,9 +76,9 @@ module _ (s : Scanner) (store work out : List ℕ) (few : length store ≤ 12288
       go (accepted held) e l = tried held e (ltb (length work) (length store)) refl
 
   -- in the code's terms
-  module _ {a : Written} (told : written_told a ≡ (station_call s store work out).answer) where
-    pub acks_within : {n : ℕ} → a ≡ Bytes n → n ≤ length out
+  module _ {a : (Result ℕ Refusal)} (told : outcome_of a ≡ (station_call s store work out).answer) where
+    pub acks_within : {n : ℕ} → a ≡ Ok n → n ≤ length out
     acks_within is = rw (← told, is) at answers
 
-    pub never_18 : {r : Refusal} → a ≡ Refused r → ¬ (number_of r ≡ 18)
+    pub never_18 : {r : Refusal} → a ≡ Err r → ¬ (number_of r ≡ 18)
     never_18 is = rw (← told, is) at answers

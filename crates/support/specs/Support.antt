@@ -1,29 +1,11 @@
 -- 01, "Messages and decoders": `decode_support_functions`.
-use Rattle.std.specs.Prelude.{ℕ, zero, suc, ◌+◌, ◌-◌, ◌*◌, ◌≤◌, ◌≡◌, List, [], ◌∷◌, ◌++◌, eqb, ltb, length, get_or, drop}
+use Rattle.std.specs.Prelude.{ℕ, zero, suc, ◌+◌, List, [], ◌∷◌, ◌++◌, eqb, ltb, length, get_or, drop}
 use Rattle.base.specs.Outcome.{Outcome, accepted, refused, pick}
-use Rattle.base.specs.Refusal.{refusal_told}
 use Rattle.reading.specs.Items.{fixed, counted, item_at}
 use Rattle.reading.specs.Reading.{count_reading}
 use Rattle.support.specs.declared.support.Table.{Table}
 use Rattle.support.specs.declared.support.SupportFunction.{SupportFunction}
-use Rattle.support.specs.declared.support.Placing.{Placing}
-use Rattle.support.specs.declared.support.SupportCheck.{SupportCheck}
-use Rattle.support.specs.declared.support.SupportCheck.TheVariants as Check
-use Rattle.support.specs.declared.support.SupportAnswer.{SupportAnswer}
-use Rattle.support.specs.declared.support.SupportAnswer.TheVariants as Answer
-
--- the table that was given, and the count
-pub record SupportList : Type 0 where
-  pub table : Table
-  pub count : ℕ
-
-abbrev pub check_told : SupportCheck → Outcome ℕ
-check_told (Check.Count n) = accepted n
-check_told (Check.Refused r) = refusal_told r
-
-abbrev pub support_told : SupportAnswer → Outcome SupportList
-support_told (Answer.Functions table n) = accepted (record { table = table; count = n })
-support_told (Answer.Refused r) = refusal_told r
+use Rattle.support.specs.declared.support.SupportList.{SupportList}
 
 -- "kind `00`; count, then code and priority each, the end": the count, or the refusal
 unfoldable pub check_of : List ℕ → Outcome ℕ
@@ -60,9 +42,3 @@ support_by (accepted count) table p records =
 -- 25, 26, then 20 where the list is longer than the lent records; the list goes into the records
 unfoldable pub support_call : Table → List ℕ → List SupportFunction → SupportEffect
 support_call table p records = support_by (check_of p) table p records
-
--- what the helper of the decoder answers, whatever the lent records hold: there is room for what is written, and it is in the list. 01 does not speak of it
-abbrev pub Placed : Table → List ℕ → ℕ → Placing → Type 0
-Placed table p room r =
-    (r.places ≤ room) × (2 * r.places ≤ length p - 3)
-    × ((records : List SupportFunction) → length records ≡ room → support_call table p records ≡ record { answer = support_told r.answer; records = records_with p r.places records })

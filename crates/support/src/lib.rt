@@ -4,6 +4,5 @@
 mod support;
 
 pub use support::{
-    SupportAnswer, SupportCheck, SupportFunction, Table, check_support_functions,
-    decode_support_functions,
+    SupportFunction, SupportList, Table, check_support_functions, decode_support_functions,
 };

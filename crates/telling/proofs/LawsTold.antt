@@ -1,59 +1,37 @@
--- A turn of the loop that tells numbers, and both its ends; what a call tells of an outcome, by its answer.
-use Prim.Native.Nat.{ℕ, suc, ◌+◌, ◌≤◌, ◌<◌}
-use mathlib.Core.Path.{◌≡◌, refl}
-use mathlib.Core.List.{List, [], ◌∷◌, ◌++◌, append-nil}
-use native.Mathlib.Omega.{arith}
-use native.Mathlib.Numerals.{add-one}
-use lib.ListN.{length, get_or, take, drop, set, take-append-drop, drop_of_length-le}
-use lib.Seq.{drop-cons, drop-length, take_all, take-suc-set, drop-set-lt, append_snoc}
+-- How the values begin once numbers are told; what a call tells of an outcome, by its answer.
+use Rattle.std.proofs.Common.{◌≡◌, ℕ, zero, suc, ◌<◌, ◌≤◌, min, List, [], ◌∷◌, ◌++◌, length, take, drop, set, refl, ap, arith}
 use Rattle.base.specs.Refusal.{listed, number_of, refusal_told}
 use Rattle.base.specs.declared.refusal.Refusal.{Refusal}
 use Rattle.base.specs.declared.refusal.Refusal.TheVariants.{BadEscapee, BadChecksum, LengthMismatch}
 use Rattle.base.specs.Outcome.{Outcome, accepted}
 use Rattle.telling.specs.Told.{status_of, numbers_of, told}
 
--- what the values come to where the first i are told already
-abbrev pub told_from : (numbers values : List ℕ) → ℕ → List ℕ
-told_from numbers values i = take i values ++ told (drop i numbers) (drop i values)
-
-no_room : (ns : List ℕ) → told ns [] ≡ []
-unfolding told
-no_room [] = refl
-no_room (n ∷ ns) = refl
-
-one_more : (n v : ℕ) (ns vs : List ℕ) → told (n ∷ ns) (v ∷ vs) ≡ n ∷ told ns vs
-unfolding told
-one_more n v ns vs = refl
-
 pub none_left : (vs : List ℕ) → told [] vs ≡ vs
 unfolding told
 none_left vs = refl
 
-module _ (ns vs : List ℕ) (i : ℕ) where
-  pub turn : i < length ns → i < length vs → told_from ns (set vs i (get_or ns i 0)) (i + 1) ≡ told_from ns vs i
-  turn h k =
-      rw (add-one, take-suc-set vs i (get_or ns i 0) k, drop-set-lt (suc i) vs i (get_or ns i 0) (omega arith), append_snoc, drop-cons ns i 0 h, drop-cons vs i 0 k, one_more)
+-- the numbers over as many values
+pub told_front : (ns vs : List ℕ) (n : ℕ) → n ≡ min (length ns) (length vs) → take n ns ++ drop n vs ≡ told ns vs
+unfolding told
+told_front [] vs n e = let z : n ≡ 0 = omega arith in rw z
+told_front (m ∷ ns) [] n e = let z : n ≡ 0 = omega arith in rw z
+told_front (m ∷ ns) (v ∷ vs) zero e = absurd (omega arith)
+told_front (m ∷ ns) (v ∷ vs) (suc n) e = ap (λ (xs : List ℕ). m ∷ xs) (told_front ns vs n (omega arith))
 
-  pub full : length vs ≤ i → told_from ns vs i ≡ vs
-  full h = rw (drop_of_length-le vs h, no_room, take_all i vs h, append-nil)
-
-  pub whole : i ≡ length ns → told_from ns vs i ≡ vs
-  whole h = rw (h, drop-length ns, none_left, take-append-drop)
-
--- two numbers, by how many fit
+-- two numbers, by how many fit once the first is told
 module _ (a b : ℕ) where
   pub none_told : (vs : List ℕ) → length vs ≡ 0 → told (a ∷ b ∷ []) vs ≡ vs
   unfolding told
   none_told [] h = refl
   none_told (v ∷ vs) h = absurd (omega arith)
 
-  pub one_told : (vs : List ℕ) → length vs ≡ 1 → told (a ∷ b ∷ []) vs ≡ set vs 0 a
+  pub one_told : (vs : List ℕ) → ¬ (length vs ≡ 0) → length (set vs 0 a) ≤ 1 → told (a ∷ b ∷ []) vs ≡ set vs 0 a
   unfolding told
-  one_told [] h = absurd (omega arith)
-  one_told (v ∷ []) h = refl
-  one_told (v ∷ w ∷ vs) h = absurd (omega arith)
+  one_told [] n h = absurd (n refl)
+  one_told (v ∷ []) n h = refl
+  one_told (v ∷ w ∷ vs) n h = absurd (omega arith)
 
-  pub two_told : (vs : List ℕ) → 2 ≤ length vs → told (a ∷ b ∷ []) vs ≡ set (set vs 0 a) 1 b
+  pub two_told : (vs : List ℕ) → 1 < length (set vs 0 a) → told (a ∷ b ∷ []) vs ≡ set (set vs 0 a) 1 b
   unfolding told
   two_told [] h = absurd (omega arith)
   two_told (v ∷ []) h = absurd (omega arith)

@@ -10,43 +10,43 @@ use borrow.Author.Tests.{ltb-true, ltb-false, leb-true}
 use Rattle.base.specs.Outcome.{pick}
 use Rattle.text.specs.Text.{Place, Lead, Follower, Failed, in_range, after_lead, after_follower, next, place_after, text_from, is_text_of, begun, forms_from, characters_from, characters_of}
 use Rattle.text.specs.Inner.{onto}
-use Rattle.text.specs.declared.text.Characters.TheVariants.{Number, NoText}
 use Rattle.text.proofs.LawsText.{never_both, inside, above, failed, behind, characters_append, lead_plain, lead_low}
+use Rattle.std.specs.Prelude.{Some, None}
 
 -- "An empty name has 0 characters and is text"
-pub nothing : characters_of [] ≡ Number 0
+pub nothing : characters_of [] ≡ Some 0
 unfolding characters_of place_after forms_from
 nothing = refl
 
-pub adds_up : (xs ys : List ℕ) (n m : ℕ) → characters_of xs ≡ Number n → characters_of ys ≡ Number m → characters_of (xs ++ ys) ≡ Number (n + m)
+pub adds_up : (xs ys : List ℕ) (n m : ℕ) → characters_of xs ≡ Some n → characters_of ys ≡ Some m → characters_of (xs ++ ys) ≡ Some (n + m)
 adds_up xs ys n m x y = characters_append xs ys n x ∙ ap (onto n) y
 
 -- none exactly where the bytes are no text, and a number, that of the forms begun, exactly where they are
-told : (p : Place) (xs : List ℕ) (n : ℕ) → characters_from p xs ≡ Number n → (text_from p xs ≡ true) × (forms_from p xs ≡ n)
+told : (p : Place) (xs : List ℕ) (n : ℕ) → characters_from p xs ≡ Some n → (text_from p xs ≡ true) × (forms_from p xs ≡ n)
 told p xs n = go (text_from p xs)
   where
-    go : (t : Bool) → pick t (Number (forms_from p xs)) NoText ≡ Number n → (t ≡ true) × (forms_from p xs ≡ n)
+    go : (t : Bool) → pick t (Some (forms_from p xs)) None ≡ Some n → (t ≡ true) × (forms_from p xs ≡ n)
     go true e = (refl, cc)
     go false e = let z : ◌≡◌ {A = ℕ} 0 1 = cc in absurd (omega arith)
 
 module _ (xs : List ℕ) where
-  pub text_number : is_text_of xs ≡ true → characters_of xs ≡ Number (forms_from Lead xs)
+  pub text_number : is_text_of xs ≡ true → characters_of xs ≡ Some (forms_from Lead xs)
   unfolding characters_of
   text_number e = rw e
 
-  pub number_text : (n : ℕ) → characters_of xs ≡ Number n → is_text_of xs ≡ true
+  pub number_text : (n : ℕ) → characters_of xs ≡ Some n → is_text_of xs ≡ true
   unfolding characters_of
   number_text n e = (told Lead xs n e).0
 
-  pub no_text_none : is_text_of xs ≡ false → characters_of xs ≡ NoText
+  pub no_text_none : is_text_of xs ≡ false → characters_of xs ≡ None
   unfolding characters_of
   no_text_none e = rw e
 
-  pub none_no_text : characters_of xs ≡ NoText → is_text_of xs ≡ false
+  pub none_no_text : characters_of xs ≡ None → is_text_of xs ≡ false
   unfolding characters_of
   none_no_text = go (is_text_of xs)
     where
-      go : (t : Bool) → pick t (Number (forms_from Lead xs)) NoText ≡ NoText → t ≡ false
+      go : (t : Bool) → pick t (Some (forms_from Lead xs)) None ≡ None → t ≡ false
       go true e = cc
       go false e = refl
 
@@ -61,7 +61,7 @@ unfolding forms_from
 forms_most p [] = omega arith
 forms_most p (x ∷ xs) = omega (arith, begun_most p, forms_most (next p x) xs)
 
-pub at_most : (xs : List ℕ) (n : ℕ) → characters_of xs ≡ Number n → n ≤ length xs
+pub at_most : (xs : List ℕ) (n : ℕ) → characters_of xs ≡ Some n → n ≤ length xs
 unfolding characters_of
 at_most xs n e = omega (arith, (told Lead xs n e).1, forms_most Lead xs)
 
@@ -84,8 +84,8 @@ forms_plain (x ∷ xs) h =
     let on = forms_plain xs (rest_plain x xs h) in
     (rw e on.0, rw e (omega (arith, on.1)))
 
-pub plain_number : (xs : List ℕ) → Plain xs → characters_of xs ≡ Number (length xs)
-plain_number xs h = let f = forms_plain xs h in text_number xs f.0 ∙ ap Number f.1
+pub plain_number : (xs : List ℕ) → Plain xs → characters_of xs ≡ Some (length xs)
+plain_number xs h = let f = forms_plain xs h in text_number xs f.0 ∙ ap Some f.1
 
 begun_pick : (t : Bool) (p q : Place) → begun p ≡ 0 → begun q ≡ 0 → begun (pick t p q) ≡ 0
 begun_pick true p q a b = a
@@ -125,7 +125,7 @@ full_plain (x ∷ xs) t e = go (ltb x 0x80) refl (full_plain xs)
         both_plain x xs k (on (rw l at t) (rw l at f))
     go false eu on = absurd (omega (arith, fewer (after_lead x) xs (high_lead x (ltb-false x 0x80 eu)) t))
 
-pub number_plain : (xs : List ℕ) → characters_of xs ≡ Number (length xs) → Plain xs
+pub number_plain : (xs : List ℕ) → characters_of xs ≡ Some (length xs) → Plain xs
 unfolding characters_of
 number_plain xs e = let f = told Lead xs (length xs) e in full_plain xs f.0 f.1
 
@@ -184,6 +184,6 @@ forms_leads (Follower low high more) (x ∷ xs) w t = go (in_range low high x) r
     go false e on h = never_both (sym (failed xs) ∙ h)
 forms_leads Failed (x ∷ xs) w t = never_both (sym (failed xs) ∙ t)
 
-pub number_leads : (xs : List ℕ) (n : ℕ) → characters_of xs ≡ Number n → n ≡ leads_in xs
+pub number_leads : (xs : List ℕ) (n : ℕ) → characters_of xs ≡ Some n → n ≡ leads_in xs
 unfolding characters_of
 number_leads xs n e = let f = told Lead xs n e in sym f.1 ∙ forms_leads Lead xs tt f.0

@@ -1,8 +1,6 @@
 -- 01, "Messages and decoders": RFC 3629's forms of text; 02, C-13: how many characters they are.
-use Rattle.std.specs.Prelude.{ℕ, ◌+◌, ◌-◌, Bool, true, false, List, [], ◌∷◌, leb, eqb}
+use Rattle.std.specs.Prelude.{ℕ, ◌+◌, ◌-◌, Bool, true, false, List, [], ◌∷◌, leb, eqb, Option, Some, None}
 use Rattle.base.specs.Outcome.{pick}
-use Rattle.text.specs.declared.text.Characters.{Characters}
-use Rattle.text.specs.declared.text.Characters.TheVariants.{Number, NoText}
 
 -- what the next byte must be: the first of a form; a follower from low to high, and then so many more; or nothing will do, since no form
 -- begins or goes on so
@@ -69,8 +67,8 @@ forms_from p [] = 0
 forms_from p (b ∷ bs) = begun p + forms_from (next p b) bs
 
 -- "the number of characters when the bytes are text by RFC 3629, and none otherwise"
-abbrev pub characters_from : Place → List ℕ → Characters
-characters_from p bytes = pick (text_from p bytes) (Number (forms_from p bytes)) NoText
+abbrev pub characters_from : Place → List ℕ → Option ℕ
+characters_from p bytes = pick (text_from p bytes) (Some (forms_from p bytes)) None
 
-unfoldable pub characters_of : List ℕ → Characters
+unfoldable pub characters_of : List ℕ → Option ℕ
 characters_of bytes = characters_from Lead bytes

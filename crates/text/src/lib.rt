@@ -3,4 +3,4 @@
 
 mod text;
 
-pub use text::{Characters, count_characters};
+pub use text::count_characters;

@@ -3,30 +3,28 @@ use mathlib.Core.Path.{◌≡◌, refl}
 use mathlib.Core.Bool.{true}
 use mathlib.Core.List.{List, [], ◌∷◌}
 use lib.Count.{ones_in}
-use Rattle.reading.specs.declared.message.OptionByte.{OptionByte}
-use Rattle.reading.specs.declared.message.OptionByte.TheVariants.{Byte, NoByte}
 use Rattle.noise.specs.declared.noise.NoiseMode.{NoiseMode}
 use Rattle.noise.specs.declared.noise.NoiseMode.TheVariants.{Off, Anc, Ambient}
-use Rattle.noise.specs.declared.noise.OptionFlag.TheVariants.{NoFlag}
 use Rattle.noise.specs.declared.noise.NoiseReport.{NoiseReport}
 use Rattle.window.specs.LastReports.{counted_afresh, last_of}
 use Rattle.window.specs.Window.{width_of, opened, pushed, pushed_all, with_newest, counts_of}
+use Rattle.std.specs.Prelude.{ℕ, Option, Some, None}
 
-abbrev report : NoiseMode → OptionByte → NoiseReport
+abbrev report : NoiseMode → Option ℕ → NoiseReport
 report mode level =
     record {
       mode = mode;
-      mode_byte = NoByte;
+      mode_byte = None;
       ambient_level = level;
-      focus_on_voice = NoFlag;
+      focus_on_voice = None;
       settled = true;
-      adaptive = NoFlag;
-      adaptive_sensitivity = NoByte;
+      adaptive = None;
+      adaptive_sensitivity = None;
     }
 
 -- Off at level 5, as 01's marked case (i) reads; Anc without a level; Ambient at level 20
 abbrev three : List NoiseReport
-three = report Off (Byte 5) ∷ report Anc NoByte ∷ report Ambient (Byte 20) ∷ []
+three = report Off (Some 5) ∷ report Anc None ∷ report Ambient (Some 20) ∷ []
 
 last_two : counted_afresh (last_of 2 three) ≡ record { off = 0; anc = 1; ambient = 1; level = 1 }
 last_two = refl

@@ -4,12 +4,12 @@ use mathlib.Core.Path.{◌≡◌, refl, ap, ap₂, sym, ◌∙◌}
 use mathlib.Core.Bool.{Bool, true, false}
 use mathlib.Core.List.{List, [], ◌∷◌}
 use native.Mathlib.Omega.{arith}
-use native.Mathlib.Nat.{add-zero, mod-lt}
+use native.Mathlib.Nat.{add-zero}
 use lib.ListN.{length, length-drop}
 use lib.Dec.{ltb}
 use lib.Pow.{mod-pow-add, mod-mod-pow, field, pow_pos, low, shl-shr}
 use lib.Bits.{bit_or, or_shifted}
-use lib.Count.{ones, ones_in, ones_step, ones_cat, ones-le}
+use lib.Count.{ones, ones_in, ones_step, ones_cat}
 use borrow.Author.Tests.{le-ltb}
 use Rattle.base.specs.Outcome.{pick}
 use Rattle.base.proofs.LawsTests.{by_ltb}
@@ -40,16 +40,16 @@ unfolding ones ones_in
 ones_none = refl
 
 -- shifted until only they are left, they are counted as all the digits of a word
-pub ones_shifted : (row k j : ℕ) → ones (row * 2 ^ j % 2 ^ (k + j)) ≡ ones_in k row
-ones_shifted row k j = rw (shifted row k j, ones_cat j (row % 2 ^ k) 0 (pow_pos j), ones_none, ones_in_lem k row) (add-zero (ones (row % 2 ^ k)))
+pub ones_shifted : (row k : ℕ) → k ≤ 64 → ones (row * 2 ^ (64 - k) % 2 ^ 64) ≡ ones_in k row
+ones_shifted row k h =
+    let j = 64 - k in
+    let all : 64 ≡ k + j = omega arith in
+    ap (λ (n : ℕ). ones (row * 2 ^ j % 2 ^ n)) all ∙ rw (shifted row k j, ones_cat j (row % 2 ^ k) 0 (pow_pos j), ones_none, ones_in_lem k row) (add-zero (ones (row % 2 ^ k)))
 
-pub ones_few : (n : ℕ) → ones (n % 2 ^ 64) ≤ 64
-ones_few n = ones-le 64 (n % 2 ^ 64) (mod-lt n (pow_pos 64))
-
-pub or_newest : (row : ℕ) → bit_or (row * 2 % 2 ^ 64) 1 ≡ row * 2 % 2 ^ 64 + 1
-or_newest row =
+pub or_newest : (row digit : ℕ) → digit < 2 → bit_or (row * 2 % 2 ^ 64) digit ≡ row * 2 % 2 ^ 64 + digit
+or_newest row digit h =
     let higher : row * 2 % 2 ^ 64 ≡ row % 2 ^ 63 * 2 ^ 1 = shifted row 63 1 ∙ add-zero (row % 2 ^ 63 * 2 ^ 1) in
-    rw higher (or_shifted (row % 2 ^ 63) 1 1 (omega arith))
+    rw higher (or_shifted (row % 2 ^ 63) 1 digit h)
 
 lowest : (k j row : ℕ) → ones_in k (row % 2 ^ (j + k)) ≡ ones_in k row
 lowest k j row = rw (ones_in_lem k (row % 2 ^ (j + k)), mod-mod-pow row j k, ones_in_lem k row) refl

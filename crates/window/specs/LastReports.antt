@@ -1,7 +1,5 @@
 -- 02, C-19: "the counts are those of the last so many, counted afresh".
-use Rattle.std.specs.Prelude.{ℕ, ◌+◌, ◌-◌, Bool, true, false, List, [], ◌∷◌, length, drop}
-use Rattle.reading.specs.declared.message.OptionByte.{OptionByte}
-use Rattle.reading.specs.declared.message.OptionByte.TheVariants.{Byte, NoByte}
+use Rattle.std.specs.Prelude.{ℕ, ◌+◌, ◌-◌, Bool, true, false, List, [], ◌∷◌, length, drop, Option, Some, None}
 use Rattle.noise.specs.declared.noise.NoiseMode.{NoiseMode}
 use Rattle.noise.specs.declared.noise.NoiseMode.TheVariants.{Off, Anc, Ambient}
 use Rattle.noise.specs.declared.noise.NoiseReport.{NoiseReport}
@@ -22,9 +20,9 @@ is_ambient Off = false
 is_ambient Anc = false
 is_ambient Ambient = true
 
-abbrev pub has_level : OptionByte → Bool
-has_level (Byte level) = true
-has_level NoByte = false
+abbrev pub has_level : Option ℕ → Bool
+has_level (Some level) = true
+has_level None = false
 
 abbrev pub one_if : Bool → ℕ
 one_if true = 1

@@ -1,15 +1,13 @@
 // A window over the last noise reports. A report comes as a digit to each row, so that the work is the same whatever the width.
 ghost use Rattle.std.specs.Prelude.{◌≡◌, ◌≤◌};
 ghost use Rattle.std.specs.Int.Count.{ones_in};
-ghost use Rattle.window.specs.LastReports.{is_off, is_anc, is_ambient, has_level};
 ghost use Rattle.window.specs.Window.{width_of, opened, with_newest, pushed, counts_of};
 
 use noise::{NoiseMode, NoiseReport};
-use reading::OptionByte;
 
 // Each row has a binary digit for each of the last 64 reports, the newest lowest: 1 where the report was Off, Anc, Ambient, or held a level.
 #[repr(C)]
-#[derive(Clone, Copy)]
+#[derive(Clone, Copy, Debug, PartialEq, Eq)]
 pub struct NoiseWindow {
     pub width: u64,
     pub off: u64,
@@ -18,7 +16,7 @@ pub struct NoiseWindow {
     pub level: u64,
 }
 
-#[derive(Clone, Copy)]
+#[derive(Clone, Copy, Debug, PartialEq, Eq)]
 pub struct NoiseCounts {
     pub off: u64,
     pub anc: u64,
@@ -31,15 +29,10 @@ pub struct NoiseCounts {
 fn nearest(width: u64) -> u64
     ensures { result ≡ width_of width }
 {
-    if width < 1 {
-        return 1;
-    }
-    if width > 64 {
-        return 64;
-    }
-    width
+    width.clamp(1, 64)
 }
 
+#[tactic(auto, unfolding(crate::specs::Window::opened))]
 pub fn open(width: u64) -> NoiseWindow
     ensures { result ≡ opened width }
 {
@@ -52,80 +45,39 @@ pub fn open(width: u64) -> NoiseWindow
     }
 }
 
-fn is_off(mode: NoiseMode) -> bool
-    ensures { result ≡ is_off mode }
-{
-    match mode {
-        NoiseMode::Off => true,
-        NoiseMode::Anc => false,
-        NoiseMode::Ambient => false,
-    }
-}
-
-fn is_anc(mode: NoiseMode) -> bool
-    ensures { result ≡ is_anc mode }
-{
-    match mode {
-        NoiseMode::Off => false,
-        NoiseMode::Anc => true,
-        NoiseMode::Ambient => false,
-    }
-}
-
-fn is_ambient(mode: NoiseMode) -> bool
-    ensures { result ≡ is_ambient mode }
-{
-    match mode {
-        NoiseMode::Off => false,
-        NoiseMode::Anc => false,
-        NoiseMode::Ambient => true,
-    }
-}
-
-fn has_level(level: OptionByte) -> bool
-    ensures { result ≡ has_level level }
-{
-    match level {
-        OptionByte::Byte(_) => true,
-        OptionByte::NoByte => false,
-    }
-}
-
 // The digit of the oldest falls out.
+#[tactic(auto, using(crate::proofs::LawsWindow::or_newest), unfolding(crate::specs::Window::with_newest))]
 fn with_newest(row: u64, digit: bool) -> u64
     ensures { result ≡ with_newest row digit }
 {
-    let older = row << 1;
-    if digit {
-        return older | 1;
-    }
-    older
+    (row << 1) | u64::from(digit)
 }
 
+#[tactic(auto, unfolding(crate::specs::Window::pushed))]
 pub fn push(window: NoiseWindow, report: NoiseReport) -> NoiseWindow
     ensures { result ≡ pushed window report }
 {
-    let mode = report.mode;
-    let level = report.ambient_level;
     NoiseWindow {
         width: window.width,
-        off: with_newest(window.off, is_off(mode)),
-        anc: with_newest(window.anc, is_anc(mode)),
-        ambient: with_newest(window.ambient, is_ambient(mode)),
-        level: with_newest(window.level, has_level(level)),
+        off: with_newest(window.off, report.mode == NoiseMode::Off),
+        anc: with_newest(window.anc, report.mode == NoiseMode::Anc),
+        ambient: with_newest(window.ambient, report.mode == NoiseMode::Ambient),
+        level: with_newest(window.level, report.ambient_level.is_some()),
     }
 }
 
 // How many of the lowest digits of a row are 1.
+#[tactic(auto, using(crate::proofs::LawsWindow::ones_shifted))]
 fn ones_among(row: u64, width: u64) -> u64
     requires { (1 ≤ width) × (width ≤ 64) }
     ensures { result ≡ ones_in width row }
 {
     let older = 64 - width;
-    u64::count_ones(row << older) as u64
+    u64::from((row << older).count_ones())
 }
 
 // Of the last reports, as many as the width. One that the caller wrote into the window is taken as `open` takes it.
+#[tactic(auto, using(crate::proofs::LawsWindow::width_least, crate::proofs::LawsWindow::width_most), unfolding(crate::specs::Window::counts_of))]
 pub fn counts(window: NoiseWindow) -> NoiseCounts
     ensures { result ≡ counts_of window }
 {

@@ -5,7 +5,7 @@ ghost use Rattle.window.specs.Window.{opened, counts_of};
 ghost use Rattle.telling.specs.Told.{status_of, numbers_of, told};
 ghost use Rattle.window_answers.specs.WindowAnswers.{window_numbers, handed_in, counts_with};
 
-use noise::{NoiseAnswer, decode_noise};
+use noise::decode_noise;
 use telling::{refuse, tell};
 use window::NoiseWindow;
 
@@ -43,14 +43,14 @@ pub fn window_pushed(window: NoiseWindow, payload: &[u8], values: &mut [u64]) ->
     ensures values_after { values.new ≡ told (numbers_of window_numbers (counts_with window (noise_of payload.now))) values.old }
 {
     match decode_noise(payload) {
-        NoiseAnswer::Report(report) => {
+        Ok(report) => {
             let next = window::push(window, report);
             Windowed {
                 status: window_told(next, values),
                 window: next,
             }
         }
-        NoiseAnswer::Refused(r) => Windowed {
+        Err(r) => Windowed {
             status: refuse(r, values),
             window,
         },

@@ -2,19 +2,27 @@
 use Prim.Native.Nat.{ℕ, ◌+◌, ◌/◌, ◌%◌, ◌≤◌, ◌<◌}
 use mathlib.Core.Path.{◌≡◌, refl, sym, ap, ◌∙◌}
 use mathlib.Core.Bool.{Bool, true, false}
-use mathlib.Core.List.{List, [], ◌∷◌, ◌++◌}
+use mathlib.Core.List.{List, [], ◌∷◌, ◌++◌, append_assoc}
 use native.Mathlib.Omega.{arith}
 use lib.Dec.{ltb}
-use lib.ListN.{length, set, length-append}
+use lib.ListN.{length, take, drop, set, length-append}
 use borrow.Author.Tests.{lt-ltb, le-ltb, ltb-false}
 use Rattle.base.specs.Outcome.{accepted, pick}
 use Rattle.window_line.specs.WindowLine.{shown, decimal_of, counts_line}
+use lib.Seq.{sets-eq, drop-drop}
+use borrow.Rule.Slice.PartMut.{put_mid}
 use Rattle.base.specs.Stored.{Stored}
-use Rattle.base.specs.Writing.{WriteEffect, write_or, written_told}
-use Rattle.base.specs.declared.writing.Written.{Written}
-use Rattle.base.specs.declared.writing.Written.TheVariants.{Bytes}
+use Rattle.base.specs.Writing.{WriteEffect, write_or}
 use Rattle.base.proofs.LawsWriting.{put, then, write_cases}
 use Rattle.window.specs.declared.window.NoiseCounts.{NoiseCounts}
+use Rattle.std.specs.Prelude.{Result, Ok}
+use Rattle.base.specs.Refusal.{outcome_of}
+use Rattle.base.specs.declared.refusal.Refusal.{Refusal}
+
+-- bytes copied to a place
+pub word_stored : (word out : List ℕ) (at k : ℕ) (part : List ℕ) → part ≡ word → k ≡ length word → at + length word ≤ length out → Stored word out at (put_mid at k out part) (at + length word)
+word_stored word out at k part p e h =
+    record { bytes = rw (p, e, drop-drop (length word) at out) (sym (sets-eq word out at h ∙ append_assoc (take at out) word (drop (at + length word) out))); place = refl }
 
 module _ (n : ℕ) where
   pub one_digit : n < 10 → decimal_of n ≡ (48 + n) ∷ []
@@ -69,9 +77,9 @@ unfolding counts_line
 line_stored c s₁ s₂ s₃ s₄ = then (then (then (then s₁ s₂) s₃) s₄) (put {x = 0x0A})
 
 -- a line that was written lies in the output
-pub line_within : (c : NoiseCounts) (out : List ℕ) {w : Written} → written_told w ≡ (write_or 7 (counts_line c) out).answer → {n : ℕ} → w ≡ Bytes n → n ≤ length out
+pub line_within : (c : NoiseCounts) (out : List ℕ) {w : (Result ℕ Refusal)} → outcome_of w ≡ (write_or 7 (counts_line c) out).answer → {n : ℕ} → w ≡ Ok n → n ≤ length out
 line_within c out {w} told {n} e =
-    let t : accepted n ≡ (write_or 7 (counts_line c) out).answer = sym (ap written_told e) ∙ told in
+    let t : accepted n ≡ (write_or 7 (counts_line c) out).answer = sym (ap outcome_of e) ∙ told in
     write_cases 7 (counts_line c) out (λ (x : WriteEffect). accepted n ≡ x.answer → n ≤ length out)
     (λ long q. let z : ◌≡◌ {A = ℕ} 0 1 = cc in absurd (omega arith))
     (λ fits q. let k : n ≡ length (counts_line c) = cc in omega arith)

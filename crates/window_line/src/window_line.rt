@@ -1,23 +1,22 @@
 // The line that tells a window's counts, measured first and written only where it fits.
 ghost use Rattle.std.specs.Prelude.{◌≡◌, ◌+◌, ◌≤◌, ◌<◌, ◌++◌, length};
-ghost use Rattle.base.specs.Writing.{write_or, written_told};
+ghost use Rattle.base.specs.Writing.{write_or};
 ghost use Rattle.base.specs.Stored.{Stored};
 ghost use Rattle.window_line.specs.WindowLine.{shown, decimal_of, counts_line};
+ghost use Rattle.base.specs.Refusal.{outcome_of};
 
-use frame::{Refusal, Written};
+use frame::Refusal;
 use window::NoiseCounts;
 
 // No window counts more than 64. A number of three digits, which only a caller can have written, is shown as 99.
 fn two_digits(n: u64) -> u8
     ensures { result ≡ shown n }
 {
-    if n > 99 {
-        return 99;
-    }
-    n as u8
+    n.min(99) as u8
 }
 
 // How many digits a number is shown by.
+#[tactic(auto, using(crate::proofs::LawsWindowLine::one_digit, crate::proofs::LawsWindowLine::two_digits, crate::proofs::LawsWindowLine::shown_all, crate::proofs::LawsWindowLine::shown_two))]
 fn places(n: u64) -> usize
     ensures { result ≡ length (decimal_of (shown n)) }
 {
@@ -38,21 +37,18 @@ fn put_decimal(n: u8, out: &mut [u8], at: usize) -> usize
     at + 2
 }
 
+#[tactic(auto, using(crate::proofs::LawsWindowLine::word_stored))]
 fn put_word(word: &[u8], out: &mut [u8], at: usize) -> usize
     requires { at + length word.now ≤ length out.old }
     ensures { Stored word.now out.old at out.new result }
 {
-    let mut next = at;
-    let mut i = 0;
-    while i < word.len() {
-        out[next] = word[i];
-        next += 1;
-        i += 1;
-    }
-    next
+    let end = at + word.len();
+    out[at..end].copy_from_slice(word);
+    end
 }
 
 // A name and the digits of a number.
+#[tactic(auto, using(crate::proofs::LawsWindowLine::shown_small))]
 fn put_named(name: &[u8], n: u64, out: &mut [u8], at: usize) -> usize
     requires { at + (length name.now + length (decimal_of (shown n))) ≤ length out.old }
     ensures { Stored (name.now ++ decimal_of (shown n)) out.old at out.new result }
@@ -62,8 +58,9 @@ fn put_named(name: &[u8], n: u64, out: &mut [u8], at: usize) -> usize
 }
 
 // Writes the line to the front of the output.
-pub fn write_counts(counts: NoiseCounts, out: &mut [u8]) -> Written
-    ensures result_value { written_told result ≡ (write_or 7 (counts_line counts) out.old).answer }
+#[tactic(auto, using(crate::proofs::LawsWindowLine::digits_few, crate::proofs::LawsWindowLine::line_length, base::proofs::LawsWriting::write_refused))]
+pub fn write_counts(counts: NoiseCounts, out: &mut [u8]) -> Result<usize, Refusal>
+    ensures result_value { outcome_of result ≡ (write_or 7 (counts_line counts) out.old).answer }
     ensures out_after { out.new ≡ (write_or 7 (counts_line counts) out.old).out }
 {
     let digits = places(counts.off)
@@ -71,12 +68,12 @@ pub fn write_counts(counts: NoiseCounts, out: &mut [u8]) -> Written
         + places(counts.ambient)
         + places(counts.level);
     if out.len() < 26 + digits {
-        return Written::Refused(Refusal::LineTooLong);
+        return Err(Refusal::LineTooLong);
     }
     let a = put_named(b"off ", counts.off, out, 0);
     let b = put_named(b" anc ", counts.anc, out, a);
     let c = put_named(b" ambient ", counts.ambient, out, b);
     let end = put_named(b" level ", counts.level, out, c);
     out[end] = b'\n';
-    Written::Bytes(end + 1)
+    Ok(end + 1)
 }

@@ -1,4 +1,4 @@
-use Rattle.std.proofs.Common.{◌≡◌, ℕ, ◌+◌, ◌%◌, [], ◌∷◌, length, ◌∙◌, arith}
+use Rattle.std.proofs.Common.{◌≡◌, ℕ, ◌+◌, ◌%◌, [], ◌∷◌, length, refl, ◌∙◌, arith}
 use Rattle.escaping.specs.Escaping.{escape_of}
 use Rattle.acks.proofs.LawsAcks.{answer, ack_body, ack_length, ack_width}
 use Rattle.acks.proofs.acks.ack_len.Goals as goal
@@ -10,11 +10,9 @@ measured seq e f g = g ∙ rw (f, e)
 pub overflow_add-result : goal.overflow_add-result
 overflow_add-result c =
     let s = c.args.seq in
-    let e : c.wrapping_sub_u8-answer.result ≡ answer s = omega arith in
-    omega (arith, measured s e c.wrapping_add_u8.ensures.value c.escaped_len.ensures, ack_length s, (ack_width s).1)
+    omega (arith, measured s (omega arith) (omega arith) c.escaped_len.ensures, ack_length s, (ack_width s).1)
 
 pub returns : goal.returns
 returns c =
     let s = c.args.seq in
-    let e : c.wrapping_sub_u8-answer.result ≡ answer s = omega arith in
-    omega (arith, measured s e c.wrapping_add_u8.ensures.value c.escaped_len.ensures, ack_length s)
+    omega (arith, measured s (omega arith) (omega arith) c.escaped_len.ensures, ack_length s)

@@ -1,17 +1,17 @@
-use Rattle.std.proofs.Common.{◌≡◌, ℕ, ◌+◌, ◌-◌, ◌≤◌, false, List, take, replicate, sym, refl, ap, ◌∙◌, arith, length-take-le, leb-false, leb-true}
+use Rattle.std.proofs.Common.{◌≡◌, ℕ, ◌+◌, ◌-◌, ◌≤◌, false, List, take, replicate, sym, refl, ap, ◌∙◌, arith, length-take-le, leb-false, leb-true, Result}
 use Rattle.base.specs.Outcome.{accepted}
 use Rattle.base.specs.Refusal.{refusal_told}
 use Rattle.cutting.specs.declared.deciding.Moved.{Moved}
 use Rattle.held.specs.Going.{let_go}
-use Rattle.scanner.specs.Scanner.{held_of, counting, counted_of, counted_told, checked_told}
+use Rattle.scanner.specs.Scanner.{held_of, counting, counted_of, checked_told}
 use Rattle.scanner.specs.declared.scanner.Scanner.{Scanner}
-use Rattle.scanner.specs.declared.scanner.Counted.{Counted}
-use Rattle.scanner.specs.declared.scanner.Checked.{Checked}
 use Rattle.scanner.proofs.LawsScanner.{fine, passed}
 use Rattle.draining.specs.Draining.{drained_of, drain_call}
 use Rattle.draining.proofs.LawsDraining.{goes_held, drain_counted}
 use Rattle.acks.proofs.LawsStation.{station_refused, station_short, station_long, station_far, station_near}
 use Rattle.acks.proofs.acks.acknowledge.Goals as goal
+use Rattle.base.specs.Refusal.{outcome_of}
+use Rattle.base.specs.declared.refusal.Refusal.{Refusal}
 
 -- 1 to 3 do not apply, and these bytes are held
 module _ (s : Scanner) (store : List ℕ) (e : held_of s store ≡ accepted (take s.count store)) (m : Moved) (is : m ≡ drained_of s.limit (take s.count store)) where
@@ -19,14 +19,14 @@ module _ (s : Scanner) (store : List ℕ) (e : held_of s store ≡ accepted (tak
   goes = goes_held s store (take s.count store) e m is
 
   -- what the takes come to together, by the state's answer
-  comes : (x o : Counted) → counted_told x ≡ counted_of s (s.count - (m.dropped + m.handed)) m → x ≡ o
-      → drain_call s store ≡ counting (counted_told o) false s store (let_go (take s.count store) (m.dropped + m.handed) store)
-  comes x o told same = drain_counted s store (take s.count store) e m is (counted_told o) (ap counted_told (sym same) ∙ told)
+  comes : (x o : Result Scanner Refusal) → outcome_of x ≡ counted_of s (s.count - (m.dropped + m.handed)) m → x ≡ o
+      → drain_call s store ≡ counting (outcome_of o) false s store (let_go (take s.count store) (m.dropped + m.handed) store)
+  comes x o told same = drain_counted s store (take s.count store) e m is (outcome_of o) (ap outcome_of (sym same) ∙ told)
 
-pub returns-in-Refused : goal.returns-in-Refused
-returns-in-Refused c =
+pub returns-in-Err : goal.returns-in-Err
+returns-in-Err c =
     let a = c.args in
-    let e : checked_told c.check.result (take a.scanner.count a.store.now) ≡ refusal_told c.in-Refused.r = ap (λ (x : Checked). checked_told x (take a.scanner.count a.store.now)) c.in-Refused.is in
+    let e : checked_told c.check.result (take a.scanner.count a.store.now) ≡ refusal_told c.in-Err.r = ap (λ (x : Result (Unit {0}) Refusal). checked_told x (take a.scanner.count a.store.now)) c.in-Err.is in
     rw (station_refused a.scanner a.store.now a.work.now a.out.now (sym c.check.ensures ∙ e)) (record { answer_value = refl; scanner_value = refl; store_after = refl; work_after = refl; out_after = refl })
 
 pub returns-then-work-store : goal.returns-then-work-store
@@ -66,8 +66,8 @@ overflow_sub-count c =
 pub slice_bounds-put_acks-end : goal.slice_bounds-put_acks-end
 slice_bounds-put_acks-end c = let a = c.args in (fine a.scanner a.store.now _ _ c.check.ensures c.in_default.is).fits
 
-pub slice_bounds-put_acks-end-in-Next : goal.slice_bounds-put_acks-end-in-Next
-slice_bounds-put_acks-end-in-Next c = let a = c.args in sym (length-take-le _ _ (fine a.scanner a.store.now _ _ c.check.ensures c.in_default.is).fits)
+pub slice_bounds-put_acks-end-in-Ok : goal.slice_bounds-put_acks-end-in-Ok
+slice_bounds-put_acks-end-in-Ok c = let a = c.args in sym (length-take-le _ _ (fine a.scanner a.store.now _ _ c.check.ensures c.in_default.is).fits)
 
 pub put_acks-n-requires : goal.put_acks-n-requires
 put_acks-n-requires c =
@@ -75,18 +75,18 @@ put_acks-n-requires c =
     let f = (fine a.scanner a.store.now _ _ c.check.ensures c.in_default.is).fits in
     (omega (arith, length-take-le a.scanner.count a.store.now f, f, c.if-work-store.false), leb-true _ _ (sym c.acks_fit.ensures ∙ c.if-not-acks_fit.false))
 
-pub returns-in-Refused-advance : goal.returns-in-Refused-advance
-returns-in-Refused-advance c =
+pub returns-in-Err-advance : goal.returns-in-Err-advance
+returns-in-Err-advance c =
     let a = c.args in
     let e = passed a.scanner a.store.now _ _ c.check.ensures c.in_default.is in
     let room = leb-true _ _ (sym c.acks_fit.ensures ∙ c.if-not-acks_fit.false) in
-    rw (station_far a.scanner a.store.now a.work.now a.out.now _ e (omega (arith, c.if-work-store.false)) room a.store.now _ _ (comes a.scanner a.store.now e c.decide_all-moved.result c.decide_all-moved.ensures _ _ c.advance.ensures c.in-Refused-advance.is))
+    rw (station_far a.scanner a.store.now a.work.now a.out.now _ e (omega (arith, c.if-work-store.false)) room a.store.now _ _ (comes a.scanner a.store.now e c.decide_all-moved.result c.decide_all-moved.ensures _ _ c.advance.ensures c.in-Err-advance.is))
     (record { answer_value = refl; scanner_value = refl; store_after = refl; work_after = refl; out_after = refl })
 
-pub returns-in-Next : goal.returns-in-Next
-returns-in-Next c =
+pub returns-in-Ok : goal.returns-in-Ok
+returns-in-Ok c =
     let a = c.args in
     let e = passed a.scanner a.store.now _ _ c.check.ensures c.in_default.is in
     let room = leb-true _ _ (sym c.acks_fit.ensures ∙ c.if-not-acks_fit.false) in
-    rw (station_near a.scanner a.store.now a.work.now a.out.now _ e (omega (arith, c.if-work-store.false)) room _ _ (comes a.scanner a.store.now e c.decide_all-moved.result c.decide_all-moved.ensures _ _ c.advance.ensures c.in-Next.is) c.put_acks-n.ensures)
-    (record { answer_value = refl; scanner_value = refl; store_after = c.let_go.ensures.store_after; work_after = c.wipe-in-Next.ensures ∙ ap (λ (n : ℕ). replicate n 0) c.put_acks-n.auto.work; out_after = refl })
+    rw (station_near a.scanner a.store.now a.work.now a.out.now _ e (omega (arith, c.if-work-store.false)) room _ _ (comes a.scanner a.store.now e c.decide_all-moved.result c.decide_all-moved.ensures _ _ c.advance.ensures c.in-Ok.is) c.put_acks-n.ensures)
+    (record { answer_value = refl; scanner_value = refl; store_after = c.let_go.ensures.store_after; work_after = c.wipe-in-Ok.ensures ∙ ap (λ (n : ℕ). replicate n 0) c.put_acks-n.auto.work; out_after = refl })

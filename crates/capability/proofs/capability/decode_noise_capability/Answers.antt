@@ -8,21 +8,19 @@ use Rattle.reading.proofs.LawsReading.{read_short, read_unserved, read_uncounted
 use Rattle.capability.specs.Capability.{capability_of, capability_kind, ranges_of}
 use Rattle.capability.proofs.LawsCapability.{reports}
 use Rattle.capability.proofs.capability.decode_noise_capability.Goals as goal
+use Rattle.capability.proofs.capability.decode_noise_capability.Goals.{then-payload-lt2-via-then-payload-lt2, then-payload-lt2-via-else-payload-lt2+then-not-has_ranges}
 
 pub returns-then-payload-lt2 : goal.returns-then-payload-lt2
 unfolding capability_of
 returns-then-payload-lt2 c =
     let p = c.args.payload.now in
-    let e : capability_of p ≡ refused 25 [] = read_short _ _ _ _ c.if-payload-lt2.true in
+    let e : capability_of p ≡ refused 25 [] =
+    elim c.then-payload-lt2.branch [
+      | then-payload-lt2-via-then-payload-lt2 w ↦ read_short _ _ _ _ w.if-payload-lt2.true
+      | then-payload-lt2-via-else-payload-lt2+then-not-has_ranges w ↦
+          read_unserved capability_kind _ _ p w.if-payload-lt2.false (sym w.has_ranges.ensures ∙ w.if-not-has_ranges.true)
+    ] in
     let r = reports c.refuse.ensures e in
-    record { result_value = r.0; report_value = r.1 }
-
-pub returns-then-not-has_ranges : goal.returns-then-not-has_ranges
-unfolding capability_of
-returns-then-not-has_ranges c =
-    let p = c.args.payload.now in
-    let e : capability_of p ≡ refused 25 [] = read_unserved capability_kind _ _ p (omega arith) (sym c.has_ranges.ensures ∙ c.if-not-has_ranges.true) in
-    let r = reports c.refuse-then-not-has_ranges.ensures e in
     record { result_value = r.0; report_value = r.1 }
 
 pub returns-then-payload-lt3 : goal.returns-then-payload-lt3

@@ -9,17 +9,17 @@ use Rattle.equalizer.proofs.equalizer.equalizer_steps.Goals as goal
 
 pub slice_bounds-result-count : goal.slice_bounds-result-count
 unfolding equalizer_of
-slice_bounds-result-count c = omega (arith, was_counted _ 3 1 _ c.args.payload.now _ (sym (rw c.in-Report.is at c.decode_equalizer.ensures)))
+slice_bounds-result-count c = omega (arith, was_counted _ 3 1 _ c.args.payload.now _ (sym (rw c.in-Ok.is at c.decode_equalizer.ensures)))
 
 pub slice_bounds-result-start : goal.slice_bounds-result-start
 unfolding equalizer_of
-slice_bounds-result-start c = omega (arith, was_counted _ 3 1 _ c.args.payload.now _ (sym (rw c.in-Report.is at c.decode_equalizer.ensures)))
+slice_bounds-result-start c = omega (arith, was_counted _ 3 1 _ c.args.payload.now _ (sym (rw c.in-Ok.is at c.decode_equalizer.ensures)))
 
-pub returns-in-Report : goal.returns-in-Report
+pub returns-in-Ok : goal.returns-in-Ok
 unfolding steps_of
-returns-in-Report c = let p = c.args.payload.now in
-    rw (← c.decode_equalizer.ensures, c.in-Report.is) (take_all (length p - 4) (drop 4 p) (simp length-drop (omega arith)))
+returns-in-Ok c = let p = c.args.payload.now in
+    rw (← c.decode_equalizer.ensures, c.in-Ok.is) (take_all (length p - 4) (drop 4 p) (simp length-drop (omega arith)))
 
-pub returns-in-Refused : goal.returns-in-Refused
+pub returns-in-Err : goal.returns-in-Err
 unfolding steps_of
-returns-in-Refused c = rw (← c.decode_equalizer.ensures, c.in-Refused.is)
+returns-in-Err c = rw (← c.decode_equalizer.ensures, c.in-Err.is)

@@ -1,5 +1,4 @@
 use mathlib.Core.Path.{refl, sym, ◌∙◌}
-use native.Mathlib.Omega.{arith}
 use lib.ListN.{length}
 use borrow.Author.Tests.{leb-true, leb-false}
 use Rattle.escaping.specs.Escaping.{escape_of}
@@ -11,9 +10,6 @@ returns-then-not-escape_fits c =
     let a = c.args in
     rw (write_refused 18 (escape_of a.src.now) a.out.now (leb-false (length (escape_of a.src.now)) (length a.out.now) (sym c.escape_fits.ensures ∙ c.if-not-escape_fits.true)))
     (record { result_value = refl; out_after = refl })
-
-pub escape_at-requires : goal.escape_at-requires
-escape_at-requires c = omega (arith, leb-true _ _ (sym c.escape_fits.ensures ∙ c.if-not-escape_fits.false))
 
 pub returns : goal.returns
 returns c = rw (write_fits 18 (leb-true _ _ (sym c.escape_fits.ensures ∙ c.if-not-escape_fits.false)) c.escape_at.ensures) (record { result_value = refl; out_after = refl })

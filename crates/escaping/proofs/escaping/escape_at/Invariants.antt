@@ -1,11 +1,7 @@
-use Prim.Native.Nat.{◌-◌, ◌≤◌}
-use lib.ListN.{length, drop}
-use Rattle.escaping.specs.Escaping.{escape_of}
+use Rattle.std.proofs.Common.{◌≡◌}
 use Rattle.base.proofs.LawsWriting.{Writing}
+use Rattle.escaping.specs.Escaping.{escape_of}
 use Rattle.escaping.proofs.escaping.escape_at.Given as goal
 
-abbrev pub invariant-loop-i : goal.invariant-loop-i
-invariant-loop-i l = (l.i ≤ length l.src) × Writing (escape_of l.src) (escape_of (drop l.i l.src)) l.initial.out l.at l.out l.next
-
-abbrev pub decreases-loop-i : goal.decreases-loop-i
-decreases-loop-i l = length l.src - l.i
+abbrev pub invariant-loop-block : goal.invariant-loop-block
+invariant-loop-block l = record { size : l.block-iterator.size ≡ 32; writing : Writing (escape_of l.src) (escape_of l.block-iterator.rest.now) l.initial.out l.at l.out l.next }

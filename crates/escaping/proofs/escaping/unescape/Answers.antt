@@ -1,28 +1,18 @@
-use mathlib.Core.Path.{refl, ap, ◌∙◌}
+use mathlib.Core.Path.{refl}
 use mathlib.Core.Logic.{inl, inr}
 use native.Mathlib.Omega.{arith}
-use lib.ListN.{length, length-replicate}
-use Rattle.escaping.proofs.LawsUnescaping.{fill_begin, fill_step, fill_refused, fill_accepted, unescape_ended, unescape_short, plain_turn, trailing_turn, escape_turn, bad_turn, unescape_end}
+use Rattle.escaping.proofs.LawsUnescaping.{fill_step, fill_refused, fill_accepted, unescape_ended, unescape_short, plain_turn, trailing_turn, escape_turn, bad_turn, unescape_end}
 use Rattle.escaping.proofs.escaping.unescape.Goals as goal
 use Rattle.escaping.proofs.escaping.unescape.Goals.{in_default-via-then-e-lt44, in_default-via-else-e-lt44+else-e-lt47}
 
 pub returns-then-out-src : goal.returns-then-out-src
 returns-then-out-src c = let a = c.args in rw (unescape_short a.src.now a.out.now c.if-out-src.true) (record { result_value = refl; out_after = refl })
 
-pub loop-i-init : goal.loop-i-init
-loop-i-init c = (omega arith, omega arith, omega arith, fill_begin)
-
-pub bounds-out-at : goal.bounds-out-at
-bounds-out-at c = omega (arith, c.loop-i.invariant.3.same)
-
 pub loop-i-preserved-then-b-ne-SENTRY : goal.loop-i-preserved-then-b-ne-SENTRY
 loop-i-preserved-then-b-ne-SENTRY c =
     let l = c.loop-i in
     let a = c.args in
     (omega arith, omega arith, omega arith, fill_step c.loop-i.invariant.3 (plain_turn a.src.now c.loop-i.i c.loop-i-test.true c.if-b-ne-SENTRY.true))
-
-pub shape_of-out-then-src-i : goal.shape_of-out-then-src-i
-shape_of-out-then-src-i c = ap length c.wipe.ensures ∙ simp length-replicate c.loop-i.invariant.3.same
 
 pub returns-then-src-i : goal.returns-then-src-i
 returns-then-src-i c =
@@ -31,9 +21,6 @@ returns-then-src-i c =
     let a = c.args in
     rw (unescape_ended a.src.now a.out.now t.loop-i.invariant.2 (fill_refused t.loop-i.invariant.3 (trailing_turn a.src.now t.loop-i.i t.loop-i-test.true c.if-b-ne-SENTRY.false c.if-src-i.true))) (record { result_value = refl; out_after = c.wipe.ensures })
 
-pub bounds-out-at-in-44-to-46 : goal.bounds-out-at-in-44-to-46
-bounds-out-at-in-44-to-46 c = omega (arith, c.loop-i.invariant.3.same)
-
 pub loop-i-preserved : goal.loop-i-preserved
 loop-i-preserved c =
     let t = c in
@@ -41,18 +28,12 @@ loop-i-preserved c =
     let a = c.args in
     (omega arith, omega arith, omega arith, fill_step t.loop-i.invariant.3 (escape_turn a.src.now t.loop-i.i t.loop-i-test.true c.if-b-ne-SENTRY.false c.if-src-i.false (omega arith) (omega arith)))
 
-pub shape_of-out-in_default : goal.shape_of-out-in_default
-shape_of-out-in_default c = ap length c.wipe-in_default.ensures ∙ simp length-replicate c.loop-i.invariant.3.same
-
 pub returns-in_default : goal.returns-in_default
 returns-in_default c =
     let t = c in
     let l = t.loop-i in
     let a = c.args in
     rw (unescape_ended a.src.now a.out.now t.loop-i.invariant.2 (fill_refused t.loop-i.invariant.3 (bad_turn a.src.now t.loop-i.i t.loop-i-test.true c.if-b-ne-SENTRY.false c.if-src-i.false (elim c.in_default.branch [ in_default-via-then-e-lt44 w ↦ inl (omega arith) | in_default-via-else-e-lt44+else-e-lt47 w ↦ inr (omega arith) ])))) (record { result_value = refl; out_after = c.wipe-in_default.ensures })
-
-pub shape_of-out : goal.shape_of-out
-shape_of-out c = c.loop-i.invariant.3.same
 
 pub returns : goal.returns
 returns c =

@@ -1,31 +1,33 @@
-use Rattle.std.proofs.Common.{sym, refl, ap, ◌∙◌}
-use Rattle.base.specs.Writing.{written_told}
-use Rattle.framing.proofs.LawsFraming.{unpack_short, unpack_start, unpack_end, unpack_not, unpack_body}
+use Rattle.std.proofs.Common.{◌≡◌, sym, refl, ◌∙◌, rules, length-take-le}
+use Rattle.base.specs.Refusal.{outcome_of, refusal_told}
+use Rattle.framing.proofs.LawsFraming.{unpack_unmarked, unpack_not, unpack_body, told_of, left_good, left_bad}
 use Rattle.framing.proofs.framing.unpack.Goals as goal
 
-pub returns-then-n-lt9 : goal.returns-then-n-lt9
-returns-then-n-lt9 c = let a = c.args in rw (unpack_short a.frame.now a.work.now c.if-n-lt9.true) (record { result_value = refl; work_after = refl })
-
-pub returns-then-frame-ne-START : goal.returns-then-frame-ne-START
-returns-then-frame-ne-START c = let a = c.args in rw (unpack_start a.frame.now a.work.now c.if-n-lt9.false c.if-frame-ne-START.true) (record { result_value = refl; work_after = refl })
-
-pub returns-then-frame-n-ne-END : goal.returns-then-frame-n-ne-END
-returns-then-frame-n-ne-END c = let a = c.args in rw (unpack_end a.frame.now a.work.now c.if-n-lt9.false c.if-frame-ne-START.false c.if-frame-n-ne-END.true) (record { result_value = refl; work_after = refl })
-
-pub check_body-requires : goal.check_body-requires
-check_body-requires c =
+pub returns-in_err-between_markers : goal.returns-in_err-between_markers
+returns-in_err-between_markers c =
     let a = c.args in
-    let u = c.unescape in
-    (unpack_body a.frame.now a.work.now c.if-n-lt9.false c.if-frame-ne-START.false c.if-frame-n-ne-END.false (sym (ap written_told c.in-Bytes.is) ∙ c.unescape.ensures.result_value) c.unescape.ensures.out_after).within
+    let e : outcome_of c.from_residual.result ≡ refusal_told c.in_err-between_markers.field-0.0 = search rules in
+    rw (e, unpack_unmarked a.frame.now a.work.now c.in_err-between_markers.ensures) (record { result_value = refl; work_after = refl })
 
-pub returns-in-Refused : goal.returns-in-Refused
-returns-in-Refused c =
+pub returns-in_err-len : goal.returns-in_err-len
+returns-in_err-len c =
     let a = c.args in
-    let u = c.unescape in
-    rw (unpack_not a.frame.now a.work.now c.if-n-lt9.false c.if-frame-ne-START.false c.if-frame-n-ne-END.false (sym (ap written_told c.in-Refused.is) ∙ c.unescape.ensures.result_value) c.unescape.ensures.out_after) (record { result_value = refl; work_after = refl })
+    let e : outcome_of c.from_residual-in_err-len.result ≡ refusal_told c.in_err-len.field-0.0 = search rules in
+    rw (e, unpack_not a.frame.now a.work.now c.in_ok-between_markers.ensures c.in_err-len.ensures.result_value c.unescape.ensures.out_after) (record { result_value = refl; work_after = refl })
 
-pub returns-in-Bytes : goal.returns-in-Bytes
-returns-in-Bytes c =
-    let a = c.args in
-    let u = c.unescape in
-    rw (unpack_body a.frame.now a.work.now c.if-n-lt9.false c.if-frame-ne-START.false c.if-frame-n-ne-END.false (sym (ap written_told c.in-Bytes.is) ∙ c.unescape.ensures.result_value) c.unescape.ensures.out_after).call c.check_body.ensures
+pub slice_bounds-read_body-end : goal.slice_bounds-read_body-end
+slice_bounds-read_body-end c = (unpack_body c.args.frame.now c.args.work.now c.in_ok-between_markers.ensures c.in_ok-len.ensures.result_value c.unescape.ensures.out_after).within
+
+pub slice_bounds-read_body-end-2 : goal.slice_bounds-read_body-end-2
+slice_bounds-read_body-end-2 c =
+    sym (length-take-le _ _ (unpack_body c.args.frame.now c.args.work.now c.in_ok-between_markers.ensures c.in_ok-len.ensures.result_value c.unescape.ensures.out_after).within)
+
+pub returns-in-Ok : goal.returns-in-Ok
+returns-in-Ok c =
+    let o = unpack_body c.args.frame.now c.args.work.now c.in_ok-between_markers.ensures c.in_ok-len.ensures.result_value c.unescape.ensures.out_after in
+    rw o.call (record { result_value = c.read_body-header.ensures ∙ sym (told_of _ _); work_after = c.wipe_from.ensures ∙ sym (left_good _ _ o.within c.in-Ok.ensures) })
+
+pub returns-in-Err : goal.returns-in-Err
+returns-in-Err c =
+    let o = unpack_body c.args.frame.now c.args.work.now c.in_ok-between_markers.ensures c.in_ok-len.ensures.result_value c.unescape.ensures.out_after in
+    rw o.call (record { result_value = c.read_body-header.ensures ∙ sym (told_of _ _); work_after = c.wipe.ensures ∙ sym (left_bad _ _ c.in-Err.ensures) })

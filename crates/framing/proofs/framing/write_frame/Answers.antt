@@ -19,31 +19,28 @@ returns-then-not-frame_fits c =
 pub bounds-out-0 : goal.bounds-out-0
 bounds-out-0 c = omega (arith, room c.args.head.now c.args.payload.now c.args.sum _ (leb-true _ _ (sym c.frame_fits.ensures ∙ c.if-not-frame_fits.false)))
 
-pub put_each-a-requires : goal.put_each-a-requires
-put_each-a-requires c = simp length-set (omega (arith, room c.args.head.now c.args.payload.now c.args.sum _ (leb-true _ _ (sym c.frame_fits.ensures ∙ c.if-not-frame_fits.false))))
+pub escape_at-a-requires : goal.escape_at-a-requires
+escape_at-a-requires c = simp length-set (omega (arith, room c.args.head.now c.args.payload.now c.args.sum _ (leb-true _ _ (sym c.frame_fits.ensures ∙ c.if-not-frame_fits.false))))
 
-pub put-b-requires : goal.put-b-requires
-put-b-requires c =
-    omega (arith, room c.args.head.now c.args.payload.now c.args.sum _ (leb-true _ _ (sym c.frame_fits.ensures ∙ c.if-not-frame_fits.false)), length-set c.args.out.now 0 62, c.put_each-a.ensures.place)
+pub escape_at-b-requires : goal.escape_at-b-requires
+escape_at-b-requires c =
+    omega (arith, room c.args.head.now c.args.payload.now c.args.sum _ (leb-true _ _ (sym c.frame_fits.ensures ∙ c.if-not-frame_fits.false)), length-set c.args.out.now 0 62, c.escape_at-a.ensures.place)
 
-pub put_each-c-requires : goal.put_each-c-requires
-put_each-c-requires c =
-    omega (arith, room c.args.head.now c.args.payload.now c.args.sum _ (leb-true _ _ (sym c.frame_fits.ensures ∙ c.if-not-frame_fits.false)), length-set c.args.out.now 0 62, c.put_each-a.ensures.place, c.put-b.ensures.place)
+pub escape_at-c-requires : goal.escape_at-c-requires
+escape_at-c-requires c =
+    omega (arith, room c.args.head.now c.args.payload.now c.args.sum _ (leb-true _ _ (sym c.frame_fits.ensures ∙ c.if-not-frame_fits.false)), length-set c.args.out.now 0 62, c.escape_at-a.ensures.place, c.escape_at-b.ensures.place)
 
 pub bounds-out-c : goal.bounds-out-c
 bounds-out-c c =
-    omega (arith, room c.args.head.now c.args.payload.now c.args.sum _ (leb-true _ _ (sym c.frame_fits.ensures ∙ c.if-not-frame_fits.false)), length-set c.args.out.now 0 62, c.put_each-a.ensures.place, c.put-b.ensures.place, c.put_each-c.ensures.place)
+    omega (arith, room c.args.head.now c.args.payload.now c.args.sum _ (leb-true _ _ (sym c.frame_fits.ensures ∙ c.if-not-frame_fits.false)), length-set c.args.out.now 0 62, c.escape_at-a.ensures.place, c.escape_at-b.ensures.place, c.escape_at-c.ensures.place)
 
 pub overflow_add-result : goal.overflow_add-result
 overflow_add-result c =
-    omega (arith, room c.args.head.now c.args.payload.now c.args.sum _ (leb-true _ _ (sym c.frame_fits.ensures ∙ c.if-not-frame_fits.false)), length-set c.args.out.now 0 62, c.put_each-a.ensures.place, c.put-b.ensures.place, c.put_each-c.ensures.place)
-
-pub shape_of-out : goal.shape_of-out
-shape_of-out c = simp length-set (omega (arith, length-set c.args.out.now 0 62))
+    omega (arith, room c.args.head.now c.args.payload.now c.args.sum _ (leb-true _ _ (sym c.frame_fits.ensures ∙ c.if-not-frame_fits.false)), length-set c.args.out.now 0 62, c.escape_at-a.ensures.place, c.escape_at-b.ensures.place, c.escape_at-c.ensures.place)
 
 pub returns : goal.returns
 returns c =
     let a = c.args in
     let fits = leb-true _ _ (sym c.frame_fits.ensures ∙ c.if-not-frame_fits.false) in
-    let s = frame_stored a.head.now a.payload.now a.sum (then (then (then (then put c.put_each-a.ensures) c.put-b.ensures) c.put_each-c.ensures) put) in
+    let s = frame_stored a.head.now a.payload.now a.sum (then (then (then (then put c.escape_at-a.ensures) c.escape_at-b.ensures) c.escape_at-c.ensures) put) in
     rw (write_fits 18 {out = a.out.now} fits s) (record { result_value = refl; out_after = refl })

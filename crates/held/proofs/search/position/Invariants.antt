@@ -1,11 +1,10 @@
-use Prim.Native.Nat.{◌+◌, ◌-◌, ◌≤◌}
-use mathlib.Core.Path.{◌≡◌}
-use lib.ListN.{length, drop}
+use Rattle.std.proofs.Common.{◌≡◌, ◌+◌, length}
+use Rattle.std.specs.Slice.Iter.{chunks_rest, chunks_size}
 use Rattle.held.specs.Search.{first_of}
 use Rattle.held.proofs.search.position.Given as goal
 
-abbrev pub invariant-loop-i : goal.invariant-loop-i
-invariant-loop-i l = (l.i ≤ length l.bytes) × (l.i + first_of l.b (drop l.i l.bytes) ≡ l.from + first_of l.b (drop l.from l.bytes))
-
-abbrev pub decreases-loop-i : goal.decreases-loop-i
-decreases-loop-i l = length l.bytes - l.i
+abbrev pub invariant-loop-block : goal.invariant-loop-block
+invariant-loop-block l =
+    (chunks_size l.block-iterator ≡ 64)
+    × (l.passed + length (chunks_rest l.block-iterator) ≡ length l.bytes)
+    × (l.passed + first_of l.b (chunks_rest l.block-iterator) ≡ first_of l.b l.bytes)

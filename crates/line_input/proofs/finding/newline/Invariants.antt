@@ -1,9 +1,6 @@
-use Rattle.std.proofs.Common.{◌≡◌, ◌-◌, length, drop}
+use Rattle.std.proofs.Common.{◌≡◌, drop}
 use Rattle.line_input.specs.Finding.{newline_at}
 use Rattle.line_input.proofs.finding.newline.Given as goal
 
 abbrev pub invariant-loop-i : goal.invariant-loop-i
 invariant-loop-i l = newline_at l.i (drop l.i l.held) ≡ newline_at l.from (drop l.from l.held)
-
-abbrev pub decreases-loop-i : goal.decreases-loop-i
-decreases-loop-i l = length l.held - l.i

@@ -1,4 +1,4 @@
 use Rattle.numbers.proofs.numbers.cell.Goals as goal
 
-pub returns-in-Present : goal.returns-in-Present
-returns-in-Present c = rw (c.charging.ensures, c.byte_or.ensures, c.in-Present.is)
+pub returns-in-Some : goal.returns-in-Some
+returns-in-Some c = rw (c.charging.ensures, c.byte_or.ensures, c.in-Some.is)

@@ -1,12 +1,7 @@
-use Prim.Native.Nat.{◌-◌}
-use mathlib.Core.Path.{◌≡◌}
-use Rattle.plan.specs.Plan.{plan_fine}
+use Rattle.std.proofs.Common.{◌≡◌}
+use Rattle.plan.specs.Plan.{entries_fine}
 use Rattle.plan.proofs.LawsPlan.{fine_from}
-use lib.ListN.{length}
 use Rattle.plan.proofs.plan.plan_fine.Given as goal
 
-abbrev pub invariant-loop-i : goal.invariant-loop-i
-invariant-loop-i l = fine_from l.fine l.plan l.i ≡ plan_fine l.plan
-
-abbrev pub decreases-loop-i : goal.decreases-loop-i
-decreases-loop-i l = length l.plan - l.i
+abbrev pub invariant-loop-e : goal.invariant-loop-e
+invariant-loop-e l = fine_from l.fine l.plan l.e-index ≡ entries_fine l.plan

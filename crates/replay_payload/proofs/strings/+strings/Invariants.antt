@@ -4,6 +4,3 @@ use Rattle.replay_payload.proofs.strings.+strings.Given as goal
 -- the places that are left
 abbrev pub decreases-strings : goal.decreases-strings
 decreases-strings l = l.n - l.at
-
-abbrev pub decreases-loop-i : goal.decreases-loop-i
-decreases-loop-i l = l.count - l.i

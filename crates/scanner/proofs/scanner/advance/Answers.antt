@@ -1,20 +1,15 @@
-use mathlib.Core.Path.{sym}
-use native.Mathlib.Omega.{arith}
-use Rattle.scanner.proofs.LawsScanner.{fits_near, far_pushed, far_handed, far_dropped, counts, counts_not}
+use Rattle.std.proofs.Common.{rules}
+use Rattle.scanner.proofs.LawsScanner.{counted_each}
 use Rattle.scanner.proofs.scanner.advance.Goals as goal
 
-pub returns-then-scanner-pushed : goal.returns-then-scanner-pushed
-returns-then-scanner-pushed c = let a = c.args in sym (counts_not a.scanner a.moved a.count (far_pushed a.scanner a.moved (omega (arith, c.if-scanner-pushed.true))))
+pub returns-in_err-counted : goal.returns-in_err-counted
+returns-in_err-counted c = simp (counted_each, ← c.in_err-counted.ensures) (search rules)
 
-pub returns-then-scanner-handed : goal.returns-then-scanner-handed
-returns-then-scanner-handed c = let a = c.args in sym (counts_not a.scanner a.moved a.count (far_handed a.scanner a.moved (omega (arith, c.if-scanner-handed.true))))
+pub returns-in_err-counted-2 : goal.returns-in_err-counted-2
+returns-in_err-counted-2 c = simp (counted_each, ← c.in_ok-counted.ensures, ← c.in_err-counted-2.ensures) (search rules)
 
-pub returns-then-scanner-dropped : goal.returns-then-scanner-dropped
-returns-then-scanner-dropped c =
-    let a = c.args in
-    sym (counts_not a.scanner a.moved a.count (far_dropped a.scanner a.moved (omega (arith, c.if-scanner-dropped.true))))
+pub returns-in_err-counted-3 : goal.returns-in_err-counted-3
+returns-in_err-counted-3 c = simp (counted_each, ← c.in_ok-counted.ensures, ← c.in_ok-counted-2.ensures, ← c.in_err-counted-3.ensures) (search rules)
 
 pub returns : goal.returns
-returns c =
-    let a = c.args in
-    sym (counts a.scanner a.moved a.count (fits_near a.scanner a.moved (record { pushed = omega arith; handed = omega arith; dropped = omega arith })))
+returns c = simp (counted_each, ← c.in_ok-counted.ensures, ← c.in_ok-counted-2.ensures, ← c.in_ok-counted-3.ensures)

@@ -1,18 +1,13 @@
-use mathlib.Core.Path.{refl, ◌∙◌}
-use Rattle.base.proofs.LawsWriting.{zeroed_all}
-use Rattle.scanner.specs.Scanner.{open_call}
+use Rattle.std.proofs.Common.{refl, sym}
+use Rattle.scanner.proofs.LawsScanner.{open_fine, open_refused}
 use Rattle.scanner.proofs.scanner.open.Goals as goal
 
-pub returns-in-Refused : goal.returns-in-Refused
-unfolding open_call
-returns-in-Refused c =
-    let k = c in
-    let f = k.fresh-scanner.ensures in
-    simp (← rw f at k.check.ensures, c.in-Refused.is) (record { answer_value = refl; scanner_value = f; store_after = refl })
+pub returns-then-is_ok : goal.returns-then-is_ok
+returns-then-is_ok c =
+    let f = c.fresh-scanner.ensures in
+    rw (open_fine _ _ _ _ (sym c.if-is_ok.ensures.value) (rw f at c.check-answer.ensures)) (record { answer_value = refl; scanner_value = f; store_after = c.wipe.ensures })
 
-pub returns-in-Fine : goal.returns-in-Fine
-unfolding open_call
-returns-in-Fine c =
-    let k = c in
-    let f = k.fresh-scanner.ensures in
-    simp (← rw f at k.check.ensures, c.in-Fine.is) (record { answer_value = refl; scanner_value = f; store_after = c.wipe_from.ensures ∙ zeroed_all k.args.store.now })
+pub returns-else-is_ok : goal.returns-else-is_ok
+returns-else-is_ok c =
+    let f = c.fresh-scanner.ensures in
+    rw (open_refused _ _ _ _ (sym c.if-is_ok.ensures.value) (rw f at c.check-answer.ensures)) (record { answer_value = refl; scanner_value = f; store_after = refl })

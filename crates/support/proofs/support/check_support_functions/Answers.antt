@@ -4,14 +4,14 @@ use borrow.Author.Tests.{eq-eqb, ne_eqb}
 use native.Mathlib.Omega.{arith}
 use lib.Dec.{eqb}
 use Rattle.support.proofs.support.check_support_functions.Goals as goal
+use Rattle.support.proofs.support.check_support_functions.Goals.{then-payload-lt2-via-then-payload-lt2, then-payload-lt2-via-else-payload-lt2+then-payload-ne0}
 
 pub returns-then-payload-lt2 : goal.returns-then-payload-lt2
 unfolding check_of
-returns-then-payload-lt2 c = rw (read_short _ _ _ _ c.if-payload-lt2.true)
-
-pub returns-then-payload-ne0 : goal.returns-then-payload-ne0
-unfolding check_of
-returns-then-payload-ne0 c = rw (read_unserved (λ kind. eqb kind 0) _ _ _ c.if-payload-lt2.false (ne_eqb _ 0 c.if-payload-ne0.true))
+returns-then-payload-lt2 c = elim c.then-payload-lt2.branch [
+  | then-payload-lt2-via-then-payload-lt2 w ↦ rw (read_short _ _ _ _ w.if-payload-lt2.true)
+  | then-payload-lt2-via-else-payload-lt2+then-payload-ne0 w ↦ rw (read_unserved (λ kind. eqb kind 0) _ _ _ w.if-payload-lt2.false (ne_eqb _ 0 w.if-payload-ne0.true))
+]
 
 pub returns-then-payload-lt3 : goal.returns-then-payload-lt3
 unfolding check_of

@@ -1,4 +1,0 @@
-use Rattle.graders.proofs.each.Given as goal
-
-abbrev pub decreases-loop-turns : goal.decreases-loop-turns
-decreases-loop-turns g l = l.turns
