@@ -16,7 +16,6 @@ use scanner::{Scanner, advance, check};
 const ACK: u8 = 0x01;
 
 // What a span is owed: nothing, or an ack of the frame that came with this sequence.
-
 fn owed(unpacked: Result<Header, Refusal>) -> Option<u8>
     ensures { result ≡ due_in (outcome_of unpacked) }
 {

@@ -14,6 +14,8 @@ pub trait Told {
         ensures { values.new ≡ told (numbers self) values.old };
 }
 
+// In place at each export: a call would pass the answer through memory.
+#[inline(always)]
 pub fn answer_told<T: Told>(answer: Result<T, Refusal>, values: &mut [u64]) -> u8
     ensures value { result ≡ status_of (outcome_of answer) }
     ensures values_after { values.new ≡ told (numbers_of T.numbers (outcome_of answer)) values.old }

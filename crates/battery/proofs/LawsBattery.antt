@@ -13,7 +13,7 @@ module _ (p : List ℕ) where
   unfolding battery_of
   refused_before e = ap (and_then levels_tried) e
 
-  levels_tried_lem : {r : BatteryReport} → any_level_of p ≡ accepted r → battery_of p ≡ levels_tried r
+  pub levels_tried_lem : {r : BatteryReport} → any_level_of p ≡ accepted r → battery_of p ≡ levels_tried r
   unfolding battery_of
   levels_tried_lem e = ap (and_then levels_tried) e
 

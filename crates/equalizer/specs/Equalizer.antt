@@ -1,14 +1,12 @@
 -- 01, "Messages and decoders" (`decode_equalizer`) and "Beside the log" (`EqShape::of`, `bias`, a band's gain).
 use Rattle.std.specs.Prelude.{ℕ, List, [], eqb, ℤ, pos, ◌-ℤ◌, get_or, drop}
 use Rattle.base.specs.Outcome.{Outcome, accepted, refused, pick}
-use Rattle.base.specs.Refusal.{refusal_told}
 use Rattle.reading.specs.Items.{fixed, counted}
 use Rattle.reading.specs.Reading.{reading_of}
 use Rattle.equalizer.specs.declared.equalizer.EqShape.{EqShape}
 use Rattle.equalizer.specs.declared.equalizer.EqShape.TheVariants.{ClearBassAndFive, TenBands, Unknown}
 use Rattle.equalizer.specs.declared.equalizer.EqReport.{EqReport}
 
--- what a report says beside its steps
 -- "kind `00`; preset, count, that many steps .., the end": preset and count, or the refusal
 unfoldable pub equalizer_of : List ℕ → Outcome EqReport
 equalizer_of = reading_of (λ kind. eqb kind 0x00) (counted 3 (fixed 1) 0) (λ p. accepted (record { preset = get_or p 2 0; count = get_or p 3 0 }))

@@ -11,7 +11,8 @@ use lib.Seq.{drop-cons}
 use lib.Dec.{eqb}
 use borrow.Author.Tests.{ne_eqb}
 use Rattle.base.specs.Outcome.{pick}
-use Rattle.escaping.specs.Escaping.{START, END, SENTRY, escaped_byte, each_of, escape_of}
+use Rattle.base.specs.Stored.{Stored}
+use Rattle.escaping.specs.Escaping.{START, END, SENTRY, escaped_byte, each_of, escape_of, framed}
 use Rattle.base.proofs.LawsTests.{by_eqb}
 use Rattle.base.proofs.LawsWriting.{Begins, part_begins}
 
@@ -110,3 +111,14 @@ no_longer [] h = refl
 no_longer (b ∷ bs) h =
     ⊎_elim (λ e. ap (λ (xs : List ℕ). xs ++ escape_of bs) e ∙ ap (λ (xs : List ℕ). b ∷ xs) (no_longer bs (omega (arith, length-append (escaped_byte b) (escape_of bs), ap length e))))
     (λ e. absurd (omega (arith, length-append (escaped_byte b) (escape_of bs), e, no_shorter bs))) (one_or_two b)
+
+-- a frame of a body in three parts
+module _ (h p : List ℕ) (s : ℕ) where
+  pub framed_parts : framed (h ++ p ++ (s ∷ [])) ≡ START ∷ (escape_of h ++ escape_of p ++ escape_of (s ∷ [])) ++ (END ∷ [])
+  framed_parts = rw (each_append escaped_byte (h ++ p) (s ∷ []), each_append escaped_byte h p)
+
+  pub framed_length : length (framed (h ++ p ++ (s ∷ []))) ≡ 2 + length (escape_of h) + length (escape_of p) + length (escape_of (s ∷ []))
+  framed_length = ap length framed_parts ∙ simp length-append (omega arith)
+
+  pub framed_stored : {out after : List ℕ} {n : ℕ} → Stored ((START ∷ []) ++ escape_of h ++ escape_of p ++ escape_of (s ∷ []) ++ (END ∷ [])) out 0 after n → Stored (framed (h ++ p ++ (s ∷ []))) out 0 after n
+  framed_stored t = rw framed_parts t

@@ -29,6 +29,10 @@ each_of g (b ∷ bs) = g b ++ each_of g bs
 abbrev pub escape_of : List ℕ → List ℕ
 escape_of bytes = each_of escaped_byte bytes
 
+-- between the markers
+abbrev pub framed : List ℕ → List ℕ
+framed body = START ∷ escape_of body ++ (END ∷ [])
+
 abbrev pub then_byte : ℕ → Outcome (List ℕ) → Outcome (List ℕ)
 then_byte b rest = on_accepted (λ (bs : List ℕ). b ∷ bs) rest
 

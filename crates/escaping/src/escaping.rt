@@ -1,10 +1,10 @@
 // Escaping keeps the markers out of a frame's body.
-ghost use Rattle.std.specs.Prelude.{◌≡◌, ◌+◌, ◌-◌, ◌≤◌, ◌<◌, [], ◌∷◌, length, leb};
+ghost use Rattle.std.specs.Prelude.{◌≡◌, ◌+◌, ◌-◌, ◌≤◌, ◌<◌, [], ◌∷◌, ◌++◌, length, leb, nat_le};
 ghost use Rattle.std.specs.Bool.{OnTrue};
 ghost use Rattle.base.specs.Outcome.{pick};
 ghost use Rattle.base.specs.Writing.{write_call};
 ghost use Rattle.base.specs.Stored.{Stored};
-ghost use Rattle.escaping.specs.Escaping.{escaped_byte, escape_of, unescape_call};
+ghost use Rattle.escaping.specs.Escaping.{escaped_byte, escape_of, framed, unescape_call};
 ghost use Rattle.base.specs.Refusal.{outcome_of};
 
 use base::{Refusal, wipe};
@@ -117,7 +117,7 @@ fn put_block(block: &[u8], out: &mut [u8], at: usize) -> usize
 }
 
 // The escaped form, stored from `at` on; the place behind it.
-pub fn escape_at(src: &[u8], out: &mut [u8], at: usize) -> usize
+fn escape_at(src: &[u8], out: &mut [u8], at: usize) -> usize
     requires { at + length (escape_of src.now) ≤ length out.old }
     ensures { Stored (escape_of src.now) out.old at out.new result }
 {
@@ -136,6 +136,41 @@ pub fn escape(src: &[u8], out: &mut [u8]) -> Result<usize, Refusal>
         return Err(Refusal::OutputTooShort);
     }
     Ok(escape_at(src, out, 0))
+}
+
+// Whether START, the escaped body and END have at most `room` bytes, the body being `head`, the payload and `sum`. No byte becomes more than two, so that with
+// room for those nothing is counted.
+#[tactic(auto, using(crate::proofs::LawsEscaping::framed_length, crate::proofs::LawsEscaping::escape_width))]
+fn framed_fits(head: &[u8; 6], payload: &[u8], sum: u8, room: usize) -> bool
+    ensures { result ≡ nat_le (length (framed (head.now ++ payload.now ++ (sum ∷ [])))) room }
+{
+    if 16 <= room && payload.len() <= (room - 16) / 2 {
+        return true;
+    }
+    let rest = 2 + escaped_len(head) + escaped_len(&[sum]);
+    rest <= room && escape_fits(payload, room - rest)
+}
+
+// START, the escaped body and END, the body being `head`, the payload and `sum`.
+#[inline(always)]
+pub fn escape_framed(
+    head: &[u8; 6],
+    payload: &[u8],
+    sum: u8,
+    out: &mut [u8],
+) -> Result<usize, Refusal>
+    ensures result_value { outcome_of result ≡ (write_call (framed (head.now ++ payload.now ++ (sum ∷ []))) out.old).answer }
+    ensures out_after { out.new ≡ (write_call (framed (head.now ++ payload.now ++ (sum ∷ []))) out.old).out }
+{
+    if !framed_fits(head, payload, sum, out.len()) {
+        return Err(Refusal::OutputTooShort);
+    }
+    out[0] = START;
+    let a = escape_at(head, out, 1);
+    let b = escape_at(payload, out, a);
+    let c = escape_at(&[sum], out, b);
+    out[c] = END;
+    Ok(c + 1)
 }
 
 // Undoes `escape`. Raw markers pass as they are.

@@ -3,4 +3,4 @@
 
 mod escaping;
 
-pub use escaping::{END, SENTRY, START, escape, escape_at, escape_fits, escaped_len, unescape};
+pub use escaping::{END, SENTRY, START, escape, escape_fits, escape_framed, escaped_len, unescape};

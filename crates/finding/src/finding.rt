@@ -24,6 +24,6 @@ pub fn look(scanner: Scanner, store: &[u8]) -> &[u8]
 {
     match find(scanner, store) {
         Ok(Some(Spot { at, len })) => &store[at..at + len],
-        Ok(None) | Err(_) => &[],
+        Ok(None) | Err(_) => &store[..0],
     }
 }

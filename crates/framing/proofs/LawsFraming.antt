@@ -1,5 +1,5 @@
 -- Laws of packing and unpacking, one for each return of the code. Assumes nothing.
-use Rattle.std.proofs.Common.{◌≡◌, ℕ, ◌+◌, ◌-◌, ◌*◌, ◌%◌, ◌<◌, ◌≤◌, Bool, true, false, eqb, ltb, List, [], ◌∷◌, ◌++◌, length, get_or, take, drop, refl, ap, ◌∙◌, arith, length-append, length-drop, length-take, length-take-le, take_at, ltb-false, le-ltb, lt-ltb, ne_eqb}
+use Rattle.std.proofs.Common.{◌≡◌, ℕ, ◌+◌, ◌-◌, ◌*◌, ◌%◌, ◌<◌, ◌≤◌, Bool, true, false, eqb, ltb, List, [], ◌∷◌, ◌++◌, length, get_or, take, drop, refl, ap, ◌∙◌, arith, length-append, length-drop, length-take, length-take-le, get_or-take, take-take, take_at, ltb-false, le-ltb, lt-ltb, ne_eqb}
 use Rattle.base.specs.Outcome.{Outcome, accepted, refused, pick, on_accepted}
 use Rattle.base.specs.DataType.{to_wire}
 use Rattle.base.specs.Sum.{checksum_of}
@@ -93,6 +93,7 @@ unpack_long f w long s e room =
 -- the call once the markers are seen, by how unescaping the inner bytes ended
 pub record Opened (f w : List ℕ) (n : ℕ) (out : List ℕ) : Type 0 where
   pub within : n ≤ length out
+  pub same : length out ≡ length w
   pub call : unpack_call f w ≡ unpack_by (body_checked (take n out)) (length out)
 
 module _ (f w : List ℕ) where
@@ -126,18 +127,27 @@ module _ (f w : List ℕ) where
             → accepted n ≡ (ran t w o).answer
             → after ≡ (ran t w o).out
             → Opened f w n after
-        go true et o eo p q = record { within = cc; call = cc }
-        go false et (refused m us) eo p q = record { within = cc; call = cc }
+        go true et o eo p q = record { within = cc; same = cc; call = cc }
+        go false et (refused m us) eo p q = record { within = cc; same = cc; call = cc }
         go false et (accepted bs) eo p q =
             let k : n ≡ length bs = cc in
             let r : length bs ≤ length w = omega (arith, unescape_shorter bytes eo, ltb-false (length w) (length bytes) et) in
             let l : length after ≡ length w = ap length q ∙ simp (length-append, length-drop) (omega arith) in
-            record { within = omega arith; call = opened ∙ rw (et, eo, l, q, k, take_at bs (drop (length bs) w) (length bs) refl) }
+            record { within = omega arith; same = l; call = opened ∙ rw (et, eo, l, q, k, take_at bs (drop (length bs) w) (length bs) refl) }
 
 -- a body that stands in the first n bytes of a work area, by what is told of it
 pub told_of : (o : Outcome (List ℕ)) (room : ℕ) → (unpack_by o room).answer ≡ on_accepted header_of o
 told_of (accepted body) room = refl
 told_of (refused n vs) room = refl
+
+-- a body whose checksum does not fit
+module _ (w : List ℕ) (n : ℕ) (within : n ≤ length w) (k : 7 ≤ n) {d s : ℕ} (ed : d ≡ get_or w (n - 1) 0) (es : s ≡ checksum_of (take (n - 1) w)) where
+  pub check_sum : (d ≡ s → ⊥) → unpack_by (body_checked (take n w)) (length w) ≡ record { answer = refused 15 (d ∷ s ∷ []); work = zeros w }
+  unfolding body_checked
+  check_sum ne =
+      let i : n - 1 < n = omega arith in
+      let j : n - 1 ≤ n = omega arith in
+      rw (length-take-le n w within, get_or-take n w (n - 1) 0 i, take-take (n - 1) n w j, ← ed, ← es, le-ltb n 7 k, ne_eqb d s ne)
 
 -- a body is accepted as it is, or refused
 checked_cases : (body : List ℕ) (P : Outcome (List ℕ) → Type 0) → P (accepted body) → ((k : ℕ) (vs : List ℕ) → P (refused k vs)) → P (body_checked body)

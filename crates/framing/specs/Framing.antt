@@ -35,7 +35,7 @@ pack_call kind seq payload out =
 abbrev pub ack_call : ℕ → List ℕ → WriteEffect
 ack_call seq out = pack_call Ack ((257 - seq) % 256) [] out
 
--- type, sequence and payload length
+-- the payload length that a body carries
 abbrev pub length_of : List ℕ → ℕ
 length_of body = slice_index body 2 * 16777216 + slice_index body 3 * 65536 + slice_index body 4 * 256 + slice_index body 5
 

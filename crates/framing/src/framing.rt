@@ -1,12 +1,11 @@
 // A frame: START, the escaped body, END. A body: type, sequence, length, payload, checksum.
-ghost use Rattle.std.specs.Prelude.{◌≡◌, ◌≤◌, [], ◌∷◌, ◌++◌, length, nat_le};
+ghost use Rattle.std.specs.Prelude.{◌≡◌};
 ghost use Rattle.base.specs.Outcome.{on_accepted};
-ghost use Rattle.base.specs.Writing.{write_call};
-ghost use Rattle.framing.specs.Framing.{frame_of, pack_call, ack_call, header_of, body_checked, inner_of, unpack_call};
+ghost use Rattle.framing.specs.Framing.{pack_call, ack_call, header_of, body_checked, inner_of, unpack_call};
 ghost use Rattle.base.specs.Refusal.{outcome_of};
 
 use base::{DataType, Refusal, checksum, wipe, wipe_from};
-use escaping::{END, START, escape_at, escaped_len, unescape};
+use escaping::{END, START, escape_framed, unescape};
 
 // What a frame carried; its payload stands in the work area from offset 6 on.
 #[derive(Clone, Copy, Debug, PartialEq, Eq)]
@@ -16,33 +15,8 @@ pub struct Header {
     pub len: usize,
 }
 
-// Whether the frame of the body that is `head`, the payload and `sum` has at most `room` bytes. No byte becomes more than two, so that with room for those nothing is counted.
-#[tactic(auto, using(crate::proofs::LawsFraming::parts_length, crate::proofs::LawsFraming::parts_width, escaping::proofs::LawsEscaping::escape_width))]
-fn frame_fits(head: &[u8], payload: &[u8], sum: u8, room: usize) -> bool
-    requires { (length head.now ≤ 6) × (length payload.now ≤ 4294967295) }
-    ensures { result ≡ nat_le (length (frame_of (head.now ++ payload.now ++ (sum ∷ [])))) room }
-{
-    16 + 2 * payload.len() <= room
-        || 2 + escaped_len(head) + escaped_len(payload) + escaped_len(&[sum]) <= room
-}
-
-// The frame of the body that is `head`, the payload and `sum`.
-fn write_frame(head: &[u8], payload: &[u8], sum: u8, out: &mut [u8]) -> Result<usize, Refusal>
-    requires { (length head.now ≤ 6) × (length payload.now ≤ 4294967295) }
-    ensures result_value { outcome_of result ≡ (write_call (frame_of (head.now ++ payload.now ++ (sum ∷ []))) out.old).answer }
-    ensures out_after { out.new ≡ (write_call (frame_of (head.now ++ payload.now ++ (sum ∷ []))) out.old).out }
-{
-    if !frame_fits(head, payload, sum, out.len()) {
-        return Err(Refusal::OutputTooShort);
-    }
-    out[0] = START;
-    let a = escape_at(head, out, 1);
-    let b = escape_at(payload, out, a);
-    let c = escape_at(&[sum], out, b);
-    out[c] = END;
-    Ok(c + 1)
-}
-
+// In place where it is called, as is what it writes by: an ack, whose payload is empty, is then no more than its few bytes.
+#[inline(always)]
 pub fn pack(data_type: DataType, seq: u8, payload: &[u8], out: &mut [u8]) -> Result<usize, Refusal>
     ensures result_value { outcome_of result ≡ (pack_call data_type seq payload.now out.old).answer }
     ensures out_after { out.new ≡ (pack_call data_type seq payload.now out.old).out }
@@ -53,7 +27,7 @@ pub fn pack(data_type: DataType, seq: u8, payload: &[u8], out: &mut [u8]) -> Res
     let [a, b, c, d] = len.to_be_bytes();
     let head = [data_type.to_wire(), seq, a, b, c, d];
     let sum = checksum(&head).wrapping_add(checksum(payload));
-    write_frame(&head, payload, sum, out)
+    escape_framed(&head, payload, sum, out)
 }
 
 // The acknowledgement of a frame that came with the sequence `seq`.

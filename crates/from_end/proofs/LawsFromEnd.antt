@@ -1,5 +1,5 @@
 -- 02, C-14: the checksum from the far end, cut anywhere, is 01's. Assumes nothing.
-use Rattle.std.proofs.Common.{suc, ◌≡◌, ℕ, zero, ◌+◌, ◌%◌, ◌<◌, List, [], ◌∷◌, ◌++◌, length, take, drop, fold, reverse, sym, ap, ◌*◌, refl, ◌∙◌, arith, take-append-drop}
+use Rattle.std.proofs.Common.{suc, ◌≡◌, ℕ, zero, ◌+◌, ◌%◌, ◌<◌, List, [], ◌∷◌, ◌++◌, length, take, drop, fold, reverse, sym, ap, ◌*◌, refl, ◌∙◌, arith, take-add, take-append-drop}
 use Rattle.std.proofs.lemmas.List.{reverse-append}
 use Rattle.std.proofs.lemmas.List.Sums.{fold_push}
 use Rattle.std.specs.Simd.{first_chunks}
@@ -55,3 +55,7 @@ blocks_back sum n (suc k) bytes e =
     fold_back back_onto sum (take n bytes) (first_chunks n k (drop n bytes))
     ∙ ap (λ s. back_onto s (take n bytes)) (blocks_back sum n k (drop n bytes) (grind (arith, common_steps)))
     ∙ sym (back_append sum (take n bytes) (drop n bytes)) ∙ ap (back_onto sum) (take-append-drop n bytes)
+
+-- of the first i bytes those from k on are added first: w of them, or one
+pub back_block : (sum next : ℕ) (bytes : List ℕ) (i k w : ℕ) → i ≡ k + w → next ≡ back_onto sum (take w (drop k bytes)) → back_onto next (take k bytes) ≡ back_onto sum (take i bytes)
+back_block sum next bytes i k w whole e = rw (e, whole, take-add k w bytes, back_append sum (take k bytes) (take w (drop k bytes)))

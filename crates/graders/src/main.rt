@@ -22,10 +22,10 @@ mod sums;
 
 use misreadings::{length_first, level_first, restarted, stars_first};
 use parse::{Word, parsed, trimmed, word_of};
-use say::Bytes;
+use say::{Bytes, tried};
 use shown::Heading;
 use spans::each_span;
-use std::io::{self, Read};
+use std::io::Read;
 use sums::sums;
 
 // What is lent to the calls on a line's bytes.
@@ -54,65 +54,52 @@ fn main(rt: HostRuntime) {
     }
     let n = replay::read_full(&mut stdin, &mut input);
     let cut = n == input.len() && stdin.read(&mut [0]).unwrap_or(0) > 0;
-    let _ = each(&rt, &input[..n], cut, &mut frame, &mut buffers);
+    each(&rt, &input[..n], cut, &mut frame, &mut buffers);
 }
 
 // Standard input may have more than was read; then a line without its end is cut.
-fn each(
-    rt: &impl Print,
-    input: &[u8],
-    cut: bool,
-    frame: &mut [u8],
-    buffers: &mut Buffers,
-) -> io::Result<()> {
+fn each(rt: &impl Print, input: &[u8], cut: bool, frame: &mut [u8], buffers: &mut Buffers) {
     let mut nth: usize = 1;
     for line in input.split_inclusive(|&b| b == b'\n') {
         if cut && !line.ends_with(b"\n") {
             break;
         }
-        one_line(rt, nth, line, frame, buffers)?;
+        one_line(rt, nth, line, frame, buffers);
         nth = nth.saturating_add(1);
     }
     if cut {
         let room = input.len();
-        println!(rt;
+        tried(println!(rt;
             "what is wrong: line {nth} and those behind it are not read, since standard input has more than {room} bytes"
-        )?;
+        ));
     }
-    Ok(())
 }
 
-fn one_line(
-    rt: &impl Print,
-    nth: usize,
-    line: &[u8],
-    frame: &mut [u8],
-    buffers: &mut Buffers,
-) -> io::Result<()> {
+fn one_line(rt: &impl Print, nth: usize, line: &[u8], frame: &mut [u8], buffers: &mut Buffers) {
     let text = trimmed(line);
     let Some(word) = word_of(text) else {
-        return println!(rt; "{}", Heading(text));
+        return tried(println!(rt; "{}", Heading(text)));
     };
     match parsed(text, frame) {
         Ok(given) => example(rt, word, given, buffers),
-        Err(fault) => println!(rt; "what is wrong: line {nth}{fault}"),
+        Err(fault) => tried(println!(rt; "what is wrong: line {nth}{fault}")),
     }
 }
 
-fn example(rt: &impl Print, word: Word, given: &[u8], buffers: &mut Buffers) -> io::Result<()> {
-    println!(rt; "bytes  {}", Bytes(given))?;
+fn example(rt: &impl Print, word: Word, given: &[u8], buffers: &mut Buffers) {
+    tried(println!(rt; "bytes  {}", Bytes(given)));
     if word == Word::Sum {
         return sums(rt, given);
     }
     if word != Word::Frame {
-        print!(rt; "wrong  ")?;
+        tried(print!(rt; "wrong  "));
     }
     let Buffers { plan, work, .. } = buffers;
     match word {
-        Word::Start => restarted(rt, given, plan, work)?,
-        Word::Length => length_first(rt, given, work)?,
-        Word::Noise => level_first(rt, given, plan, work)?,
-        Word::Masked => stars_first(rt, given, plan, work)?,
+        Word::Start => restarted(rt, given, plan, work),
+        Word::Length => length_first(rt, given, work),
+        Word::Noise => level_first(rt, given, plan, work),
+        Word::Masked => stars_first(rt, given, plan, work),
         Word::Frame | Word::Sum => {}
     }
     each_span(rt, given, buffers)

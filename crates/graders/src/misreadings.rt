@@ -2,11 +2,10 @@
 use crate::counts::Devices;
 use crate::readings::Unpacked;
 use crate::rules::Refused;
-use crate::say::{FromTo, part};
+use crate::say::{FromTo, part, tried};
 use base::Refusal;
 use replay::{behind, first};
 use scanner::{Sight, seek};
-use std::io;
 
 // Entries of a plan.
 const NOISE: u8 = 2;
@@ -14,9 +13,9 @@ const NOISE: u8 = 2;
 const PAIRED: u8 = 5;
 
 // A reader who begins again at the next start byte.
-pub fn restarted(rt: &impl Print, given: &[u8], plan: &[u8], work: &mut [u8]) -> io::Result<()> {
+pub fn restarted(rt: &impl Print, given: &[u8], plan: &[u8], work: &mut [u8]) {
     let Sight::Both { at, len } = seek(given) else {
-        return println!(rt; "there is no span to misread");
+        return tried(println!(rt; "there is no span to misread"));
     };
     // the span's own start byte is the last of those skipped
     let skipped = at.saturating_add(1);
@@ -28,9 +27,9 @@ pub fn restarted(rt: &impl Print, given: &[u8], plan: &[u8], work: &mut [u8]) ->
                 len: found,
             };
             let inner = Unpacked::new(part(rest, at, found), plan, work);
-            println!(rt; "a new frame begins at the 3E inside: {place}, {inner}")
+            tried(println!(rt; "a new frame begins at the 3E inside: {place}, {inner}"));
         }
-        _ => println!(rt; "there is no 3E inside to misread"),
+        _ => tried(println!(rt; "there is no 3E inside to misread")),
     }
 }
 
@@ -70,7 +69,7 @@ fn untested<'a>(given: &[u8], work: &'a mut [u8]) -> Option<Body<'a>> {
 }
 
 // A reader who tests the length and not the checksum.
-pub fn length_first(rt: &impl Print, given: &[u8], work: &mut [u8]) -> io::Result<()> {
+pub fn length_first(rt: &impl Print, given: &[u8], work: &mut [u8]) {
     let Some(
         Body {
             declared,
@@ -79,37 +78,37 @@ pub fn length_first(rt: &impl Print, given: &[u8], work: &mut [u8]) -> io::Resul
         },
     ) = untested(given, work)
     else {
-        return println!(rt; "there is no length to misread");
+        return tried(println!(rt; "there is no length to misread"));
     };
     let actual = payload.len();
     if declared == actual {
-        return println!(rt; "the length fits");
+        return tried(println!(rt; "the length fits"));
     }
-    println!(rt; "{}", Refused(Refusal::LengthMismatch { declared, actual }))
+    tried(println!(rt; "{}", Refused(Refusal::LengthMismatch { declared, actual })));
 }
 
 // A reader to whom a level means ambient.
-pub fn level_first(rt: &impl Print, given: &[u8], plan: &[u8], work: &mut [u8]) -> io::Result<()> {
+pub fn level_first(rt: &impl Print, given: &[u8], plan: &[u8], work: &mut [u8]) {
     let report = untested(given, work)
         .filter(|body| body.has_entry(plan, NOISE))
         .and_then(|body| payload::decode_noise(body.payload).ok());
     match report {
         Some(report) => match report.ambient_level {
-            Some(level) => println!(rt; "ambient level {level}"),
-            None => println!(rt; "ambient"),
+            Some(level) => tried(println!(rt; "ambient level {level}")),
+            None => tried(println!(rt; "ambient")),
         },
-        None => println!(rt; "there is no noise control report to misread"),
+        None => tried(println!(rt; "there is no noise control report to misread")),
     }
 }
 
 // A reader who looks at the stars and not at the checksum.
-pub fn stars_first(rt: &impl Print, given: &[u8], plan: &[u8], work: &mut [u8]) -> io::Result<()> {
+pub fn stars_first(rt: &impl Print, given: &[u8], plan: &[u8], work: &mut [u8]) {
     let list = untested(given, work)
         .filter(|body| body.has_entry(plan, PAIRED))
         .and_then(|body| devices_in(body.payload));
     match list {
-        Some(list) => println!(rt; "the phone is gone: {list}"),
-        None => println!(rt; "there is no list of phones to misread"),
+        Some(list) => tried(println!(rt; "the phone is gone: {list}")),
+        None => tried(println!(rt; "there is no list of phones to misread")),
     }
 }
 

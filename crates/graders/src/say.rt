@@ -1,6 +1,11 @@
 // What is printed: counts, places, and bytes in hexadecimal, sixteen to a row.
 use replay::{behind, first};
-use std::fmt;
+use std::{fmt, io};
+
+// A write that fails is not told, and what is behind it is tried all the same.
+pub fn tried(written: io::Result<()>) {
+    let _ = written;
+}
 
 // The next row below a label.
 pub const ROW: &str = "\n       ";

@@ -2,35 +2,28 @@
 use crate::Buffers;
 use crate::readings::Unpacked;
 use crate::rules::Refused;
-use crate::say::{FromTo, part, place};
+use crate::say::{FromTo, part, place, tried};
 use replay::first;
 use scanner::{Scanner, Sight, seek};
-use std::io;
 
 // As in `outlog`.
 const LIMIT: usize = 8192;
 
-pub fn each_span(rt: &impl Print, given: &[u8], buffers: &mut Buffers) -> io::Result<()> {
+pub fn each_span(rt: &impl Print, given: &[u8], buffers: &mut Buffers) {
     let mut scanner = scanner::open(LIMIT, &mut buffers.store).scanner;
     if let Err(r) = scanner.push(&mut buffers.store, given) {
-        return println!(rt; "{}", Refused(r));
+        return tried(println!(rt; "{}", Refused(r)));
     }
     // A turn takes a span, which has bytes, so there are no more turns than bytes, and one that finds none.
     for _ in 0..given.len() {
-        if !next_span(rt, &mut scanner, given.len(), buffers)? {
+        if !next_span(rt, &mut scanner, given.len(), buffers) {
             break;
         }
     }
-    Ok(())
 }
 
 // What is held are the last of all the bytes given. Whether there is more to read.
-fn next_span(
-    rt: &impl Print,
-    scanner: &mut Scanner,
-    total: usize,
-    buffers: &mut Buffers,
-) -> io::Result<bool> {
+fn next_span(rt: &impl Print, scanner: &mut Scanner, total: usize, buffers: &mut Buffers) -> bool {
     let held = first(&buffers.store, scanner.count);
     let before = total.saturating_sub(held.len());
     let sight = seek(held);
@@ -40,34 +33,34 @@ fn next_span(
             len,
         };
         let frame = Unpacked::new(part(held, at, len), &buffers.plan, &mut buffers.work);
-        println!(rt; "right  {place}, {frame}")?;
+        tried(println!(rt; "right  {place}, {frame}"));
         return logged(rt, scanner, buffers);
     }
     if held.is_empty() {
-        return Ok(false);
+        return false;
     }
     if before == 0 {
-        print!(rt; "right  no span: ")?;
+        tried(print!(rt; "right  no span: "));
     } else {
         let len = held.len();
-        print!(rt; "rest   {}, no span: ", FromTo { before, len })?;
+        tried(print!(rt; "rest   {}, no span: ", FromTo { before, len }));
     }
     match sight {
-        Sight::NoEnd(at) => println!(rt;
+        Sight::NoEnd(at) => tried(println!(rt;
             "byte {} is 3E, and no 3C stands behind it",
             place(before.saturating_add(at))
-        )?,
-        _ => println!(rt; "no byte is 3E")?,
+        )),
+        _ => tried(println!(rt; "no byte is 3E")),
     }
     // where the bytes have had no span, the log has no line
     if before == 0 {
         return logged(rt, scanner, buffers);
     }
-    Ok(false)
+    false
 }
 
 // The log's line, which ends with a newline.
-fn logged(rt: &impl Print, scanner: &mut Scanner, buffers: &mut Buffers) -> io::Result<bool> {
+fn logged(rt: &impl Print, scanner: &mut Scanner, buffers: &mut Buffers) -> bool {
     let Buffers {
         store,
         plan,
@@ -75,21 +68,21 @@ fn logged(rt: &impl Print, scanner: &mut Scanner, buffers: &mut Buffers) -> io::
         out,
         ..
     } = buffers;
-    print!(rt; "log    ")?;
+    tried(print!(rt; "log    "));
     let lined = masked_log::line(*scanner, store, plan, work, out);
     *scanner = lined.scanner;
     match lined.answer {
         Ok(Some(n)) => {
-            rt.write_all(first(out, n))?;
-            Ok(true)
+            tried(rt.write_all(first(out, n)));
+            true
         }
         Ok(None) => {
-            println!(rt; "no line")?;
-            Ok(false)
+            tried(println!(rt; "no line"));
+            false
         }
         Err(r) => {
-            println!(rt; "{}", Refused(r))?;
-            Ok(false)
+            tried(println!(rt; "{}", Refused(r)));
+            false
         }
     }
 }

@@ -1,14 +1,13 @@
 // The checksum of bytes, and as it grows from the last of them to the first.
-use crate::say::gap;
-use std::io;
+use crate::say::{gap, tried};
 
-pub fn sums(rt: &impl Print, given: &[u8]) -> io::Result<()> {
-    println!(rt; "sum    {:02X}", frame::checksum(given))?;
-    print!(rt; "back   ")?;
+pub fn sums(rt: &impl Print, given: &[u8]) {
+    tried(println!(rt; "sum    {:02X}", frame::checksum(given)));
+    tried(print!(rt; "back   "));
     let mut sum = 0;
     for (i, &b) in given.iter().rev().enumerate() {
         sum = frame::checksum_from_end(sum, &[b]);
-        print!(rt; "{}{sum:02X}", gap(i))?;
+        tried(print!(rt; "{}{sum:02X}", gap(i)));
     }
-    println!(rt)
+    tried(println!(rt));
 }

@@ -37,7 +37,6 @@ seen_start (Some p) = seen_end p.before p.rest (part END p.rest)
 unfoldable pub seen : List ℕ → Seen
 seen held = seen_start (part START held)
 
--- a span of the held bytes: where it starts, and how long it is
 -- the span with its markers
 abbrev pub span_of : List ℕ → List ℕ
 span_of between = START ∷ between ++ (END ∷ [])

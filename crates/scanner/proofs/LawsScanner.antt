@@ -5,8 +5,9 @@ use mathlib.Core.Bool.{Bool, true, false}
 use mathlib.Core.List.{List, [], ◌++◌}
 use native.Mathlib.Omega.{arith}
 use lib.Dec.{ltb}
-use lib.ListN.{length, take, drop, replicate, length-append, length-drop, length-replicate}
-use lib.Seq.{take_at, length-take-le}
+use native.Mathlib.Numerals.{add-one}
+use lib.ListN.{length, get_or, take, drop, set, replicate, length-append, length-drop, length-replicate}
+use lib.Seq.{take_at, length-take-le, paste, paste-suc}
 use borrow.Author.Tests.{ltb-false, lt-ltb, le-ltb}
 use Rattle.base.specs.Outcome.{Outcome, accepted, refused, pick, on_accepted, and_then}
 use Rattle.held.specs.Going.{let_go}
@@ -179,6 +180,10 @@ module _ (limit : ℕ) (store held : List ℕ) where
 -- how many stay, in the code's terms
 pub stays : (s : Scanner) (store : List ℕ) (n : ℕ) → s.count ≤ length store → length (drop n (take s.count store)) ≡ s.count - n
 stays s store n h = rw (length-drop, length-take-le s.count store h)
+
+-- one byte more of a copy
+pub copy_step : (d e : List ℕ) (at : ℕ) (s : List ℕ) (j : ℕ) → at + j < length d → j < length s → e ≡ paste d at s j → set e (at + j) (get_or s j 0) ≡ paste d at s (j + 1)
+copy_step d e at s j h k p = rw (p, paste-suc d at s j 0 h k, add-one)
 
 -- a push past 1 to 3: 4, or 27, or the piece behind the held bytes
 module _ (s : Scanner) (store held piece : List ℕ) (e : held_of s store ≡ accepted held) where

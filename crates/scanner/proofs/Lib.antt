@@ -2,3 +2,4 @@ pub mod LawsScanner
 pub mod LawsTaking
 pub mod LawsSkipping
 pub mod Cases
+pub mod Walk

@@ -1,5 +1,6 @@
 // The state, opening and push.
-ghost use Rattle.std.specs.Prelude.{◌≡◌, ◌+◌, [], take, nat_lt};
+ghost use Rattle.std.specs.Prelude.{◌≡◌, ◌+◌, ◌≤◌, [], length, take, nat_lt};
+ghost use Rattle.std.proofs.Math.Seq.{paste};
 ghost use Rattle.base.specs.Outcome.{accepted, refused, pick};
 ghost use Rattle.base.specs.Refusal.{outcome_of};
 ghost use Rattle.scanner.specs.Scanner.{GREATEST, fresh, held_of, counted_of, open_call, push_call, checked_told};
@@ -97,6 +98,17 @@ pub struct Pushed {
     pub scanner: Scanner,
 }
 
+// The piece, stored from `at` on, byte by byte: where two buffers may overlap, as those that C lends, the library's copy is a `memmove`, which the
+// exported library does without.
+fn copy_at(store: &mut [u8], at: usize, piece: &[u8])
+    requires { at + length piece.now ≤ length store.old }
+    ensures { store.new ≡ paste store.old at piece.now (length piece.now) }
+{
+    for (i, &b) in piece.iter().enumerate() {
+        store[at + i] = b;
+    }
+}
+
 impl Scanner {
     // The piece goes behind the held bytes.
     #[tactic(auto, using(crate::proofs::LawsScanner::held_known))]
@@ -117,7 +129,7 @@ impl Scanner {
             dropped: 0,
         };
         *self = advance(*self, end, moved)?;
-        store[count..end].copy_from_slice(piece);
+        copy_at(store, count, piece);
         Ok(())
     }
 }

@@ -37,14 +37,15 @@ fn put_decimal(n: u8, out: &mut [u8], at: usize) -> usize
     at + 2
 }
 
-#[tactic(auto, using(crate::proofs::LawsWindowLine::word_stored))]
+// One by one: a call that copies takes longer than a name this short.
 fn put_word(word: &[u8], out: &mut [u8], at: usize) -> usize
     requires { at + length word.now ≤ length out.old }
     ensures { Stored word.now out.old at out.new result }
 {
-    let end = at + word.len();
-    out[at..end].copy_from_slice(word);
-    end
+    for (i, &b) in word.iter().enumerate() {
+        out[at + i] = b;
+    }
+    at + word.len()
 }
 
 // A name and the digits of a number.

@@ -1,5 +1,4 @@
 use Rattle.std.proofs.Common.{◌≡◌, ◌+◌, ◌-◌, ◌<◌, ◌≤◌, length, refl, sym, arith, rules}
-use Rattle.std.proofs.lemmas.Slice.{put_mid-paste}
 use lib.Seq.{take-length}
 use Rattle.scanner.specs.Scanner.{push_call}
 use Rattle.scanner.proofs.LawsScanner.{held_fits, push_full, push_fits}
@@ -28,6 +27,5 @@ returns c =
     let a = c.args in
     let fits = held_fits _ _ _ c.in_ok-check.ensures in
     let room : a.self.now.count + length a.piece.now ≤ length a.store.now = omega arith in
-    let same : length a.piece.now ≡ a.self.now.count + length a.piece.now - a.self.now.count = omega arith in
     rw (push_fits _ _ _ _ (sym c.in_ok-check.ensures) room, ← c.in_ok-self.ensures)
-    (record { result_value = refl; self_after = refl; store_after = rw take-length at (put_mid-paste a.self.now.count _ a.store.now _ _ _ c.copy_from_slice.ensures.after same refl) })
+    (record { result_value = refl; self_after = refl; store_after = rw take-length at c.copy_at.ensures })
